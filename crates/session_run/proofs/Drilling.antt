@@ -63,7 +63,7 @@ pub keys_more : (n : ℕ) → keys n ++ 0x1E ∷ 0x9E ∷ [] ≡ keys (suc n)
 keys_more zero = refl
 keys_more (suc n) = ap (λ rest. 0x1E ∷ 0x9E ∷ rest) (keys_more n)
 
--- behind what stood there before, i of n were drawn from p on
+-- after the elements that were there, i of n were drawn from p on
 pub record HasDrawn {A : Type 0} (draws : ℕ → Draws A) (n p start i : ℕ) (before list : List A) (x : ℕ) : Type 0 where
   pub found : List A
   pub here : list ≡ before ++ found
@@ -129,7 +129,7 @@ are_programs n (program.Script items acts ∷ scripts) have = absurd have
 abbrev pub start_at : ℕ → ProcStart
 start_at p = record { home = p; privileged = true }
 
--- what processes begin with, one more
+-- the states in which processes begin, one more
 pub starts_more : (n : ℕ)
     → map start_at (range_with_len 1 n) ++ start_at (1 + n) ∷ []
     ≡ map start_at (range_with_len 1 (n + 1))

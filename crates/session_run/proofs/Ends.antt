@@ -1,4 +1,4 @@
--- The end of a play, and what comes of it.
+-- The end of a play, and its run.
 use Rattle.std.proofs.Common.{◌≡◌, ℕ, ◌+◌, ◌<◌, true, false, ◌⊎◌, ⊎_elim, arith, List, length, sym, ap, ◌∙◌, subst}
 use Rattle.std.proofs.lemmas.Bool.{cases_Bool, or_left}
 use Rattle.std.specs.Prelude.{is_some}
@@ -60,7 +60,7 @@ round_stays stays sum goes_on o first k t u before view start is_t is_u old at l
     λ more. absurd (not_longer (length t.history) (length u.history) more same_length) in
     ⊎_elim over (λ going. ⊎_elim longer stops (moved going)) (cases_Bool (is_finished o t))
 
--- what came of a play at its end
+-- the run of a play at its end
 pub run_serial : (o : Setup) (first : List ℕ) (t : Played) (view : PlayerView) (run : Run)
     → IsSerial o first t → IsAt o t view → run.log ≡ view.log → run.stop ≡ view.stop
     → IsSerial o first (run_result run)

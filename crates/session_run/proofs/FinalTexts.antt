@@ -20,7 +20,7 @@ next_console w n within =
     let len : 64 - n ≡ suc (64 - (n + 1)) = omega (arith, within) in
     ap (consoles_text w n) len
 
--- the text so far and what is left stay the whole, where the next console was added
+-- the text so far and the rest stay the whole when the next console is added
 pub consoles_more : (w : WorldState) (n : ℕ) (old new whole : List ℕ) → n ≤ 63
     → new ≡ old ++ place_text n (terminal_at w.terminals n) (input_at w.inputs n).queue
     → old ++ consoles_text w n (64 - n) ≡ whole
@@ -31,7 +31,7 @@ consoles_more w n old new whole within added so_far =
     ∙ ap (λ more. old ++ more) (sym (next_console w n within))
     ∙ so_far
 
--- numbers, each behind a blank
+-- numbers, each after a blank
 abbrev pub numbers_text : List ℕ → List ℕ
 numbers_text ns = flat_map (λ n. 0x20 ∷ decimal n) ns
 
@@ -39,7 +39,7 @@ spaced_numbers : (ns : List ℕ) → numbers_text ns ≡ blank_before_each (map 
 spaced_numbers [] = refl
 spaced_numbers (n ∷ ns) = ap (λ more. (0x20 ∷ decimal n) ++ more) (spaced_numbers ns)
 
--- the text so far and the numbers that are left stay the whole, where the next one was added
+-- the text so far and the numbers that are left stay the whole when the next one is added
 pub numbers_more : (ns : List ℕ) (i : ℕ) (old new whole : List ℕ) → i < length ns
     → new ≡ old ++ 0x20 ∷ decimal (get_or ns i 0) → old ++ numbers_text (drop i ns) ≡ whole
     → new ++ numbers_text (drop (i + 1) ns) ≡ whole
@@ -47,7 +47,7 @@ numbers_more ns i old new whole within added so_far =
     text_more (λ n. 0x20 ∷ decimal n) ns i (get_or ns i 0) old new whole
     (slice_get-get_or ns i 0 within) added so_far
 
--- behind the last number nothing is left
+-- after the last number nothing is left
 pub numbers_all : (ns : List ℕ) (i : ℕ) (old whole : List ℕ) → length ns ≤ i
     → old ++ numbers_text (drop i ns) ≡ whole → old ≡ whole
 numbers_all ns i old whole past so_far =
@@ -88,7 +88,7 @@ three_words : (q n d b : List ℕ)
 three_words [] n d b = ap (λ more. 0x20 ∷ more) (two_words n d b)
 three_words (x ∷ q) n d b = ap (λ more. x ∷ more) (three_words q n d b)
 
--- a line of four words behind a text
+-- a line of four words after a text
 four_words : (t q n d b : List ℕ)
     → (((((t ++ q) ++ 0x20 ∷ n) ++ 0x20 ∷ d) ++ 0x20 ∷ []) ++ b) ++ 0x0A ∷ []
     ≡ t ++ ((q ++ 0x20 ∷ (n ++ 0x20 ∷ (d ++ 0x20 ∷ b))) ++ 0x0A ∷ [])

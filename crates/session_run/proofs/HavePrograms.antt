@@ -25,7 +25,7 @@ every_place k d within = get_or-range_with_len 0 68 k d within ∙ (let e : 0 + 
 within_all : (k : ℕ) → k < length (range_with_len 0 68) → k < 68
 within_all k within = omega (arith, within, length-range_with_len 0 68)
 
--- who is one of them has a program
+-- each of them has a program
 pub caller_known : (programs : List Program) (i : ℕ) → i < length (callers_in programs)
     → (has_program programs (get_or (callers_in programs) i 0) ≡ true) × (get_or (callers_in programs) i 0 ≤ 67)
 unfolding callers_in
@@ -35,7 +35,7 @@ caller_known programs i within = (
       (λ k d inside. omega (arith, every_place k d (within_all k inside), within_all k inside)) i 0 within,
 )
 
--- what is kept is at some place
+-- an element that is kept has a place
 longer : (b : Bool) (x y : ℕ) (ys : List ℕ)
     → (i : ℕ) × (i < length ys) × (get_or ys i 0 ≡ y)
     → (i : ℕ) × (i < length (cond b (x ∷ ys) ys)) × (get_or (cond b (x ∷ ys) ys) i 0 ≡ y)
@@ -51,7 +51,7 @@ kept f (x ∷ xs) zero within is =
 kept f (x ∷ xs) (suc j) within is =
     longer (f x) x (get_or xs j 0) (filter f xs) (kept f xs j (omega (arith, within)) is)
 
--- who has a program is one of them
+-- a caller with a program is one of them
 pub caller_at : (programs : List Program) (p : ℕ) → p ≤ 67 → has_program programs p ≡ true
     → (i : ℕ) × (i < length (callers_in programs)) × (get_or (callers_in programs) i 0 ≡ p)
 unfolding callers_in
@@ -145,7 +145,7 @@ pub callers_are : (programs : List Program) (n : ℕ) (list : List ℕ) → n �
 unfolding callers_in
 callers_are programs n list end is = is ∙ ap (λ k. filter (has_program programs) (range_with_len 0 k)) end
 
--- what is found says whether there is a program
+-- whether there is a program, by the search's result
 pub found_tells : {X : Type 0} (f : X → Program) (programs : List Program) (p : ℕ) (found : Option X)
     → option_map f found ≡ program_of programs p → is_some found ≡ has_program programs p
 found_tells f programs p None is = ap is_some is

@@ -1,4 +1,4 @@
--- Passes of a race: made for its callers, and taken in again.
+-- Passes of a race: made for its callers, and joined.
 use Rattle.std.proofs.Common.{◌≡◌, ◌⊎◌, ℕ, ◌+◌, ◌<◌, false, zero, suc, ⊎_elim, inl, inr, arith, List, [], ◌∷◌, ◌++◌, length, get_or, replicate, set, Some, refl, sym, ap, ◌∙◌, subst, length-append}
 use Rattle.std.proofs.Math.ListN.{get_or-append}
 use Rattle.std.proofs.lemmas.Bool.{cases_eq, cases_lt}
@@ -71,14 +71,14 @@ fresh_more here callers n p s passes is split fresh many i x within read = ⊎_e
     }))
     (cases_lt i (length passes))
 
--- what was taken in and then one pass more
+-- the joined passes, and then one pass more
 at_either : (q : PassView) (joined : List PassView) (place : ℕ) (x : PassView)
     → slice_get (q ∷ joined) place ≡ Some x
     → (q ≡ x) ⊎ ((k : ℕ) × (slice_get joined k ≡ Some x))
 at_either q joined zero x is = inl (same_Some q x is)
 at_either q joined (suc k) x is = inr (k, is)
 
--- one pass more is taken in
+-- one pass more is joined
 pub home_more : (programs : List Program) (here : TableId) (callers : List ℕ) (n : ℕ) (s t : StewardView) (q : PassView)
     → callers ≡ callers_in programs → n < length callers
     → t.hub ≡ s.hub → t.stands ≡ set s.stands q.number Home → t.joined ≡ q ∷ s.joined

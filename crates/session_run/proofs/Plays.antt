@@ -30,7 +30,7 @@ next_now : (waits : Bool) (next : Option Event) (e : Event)
 next_now true next e is = absurd (none-some e is)
 next_now false next e is = is
 
--- what a call of p changes
+-- the changes by a call of p
 pub record Enters (p : ℕ) (e : Event) (program : Program) (before after : PlayerView) : Type 0 where
   pub seq : ℕ
   pub reply : Reply

@@ -1,4 +1,4 @@
--- A race whose passes are all taken in makes the history right.
+-- A race whose passes are all joined makes the history right.
 use Rattle.std.proofs.Common.{◌≡◌, ℕ, ◌≤◌, suc, true, false, ⊎_elim, arith, List, [], ◌∷◌, get_or, length, map, cond, Option, Some, None, refl, sym, ap, ◌∙◌, subst}
 use Rattle.std.proofs.lemmas.Bool.{both_ways, cases_Bool, cases_lt}
 use Rattle.std.proofs.lemmas.Option.{get_or_from_slice_get, none-some, same_Some, slice_get_within}
@@ -41,11 +41,11 @@ none_out (s ∷ stands) each =
     count_by-cons : ◌≡◌ {A = ℕ} (cond (is_out s) 1 0) 0 → count_by is_out stands ≡ 0 → count_by is_out (s ∷ stands) ≡ 0
     count_by-cons first others = grind (arith, first, others)
 
--- all passes of these callers were taken in
+-- all passes of these callers were joined
 abbrev pub AllHome : List Program → TableId → StewardView → Type 0
 AllHome programs here s = AreHome programs here (length (callers_in programs)) s
 
--- who has no program has no pass
+-- a caller without a program has no pass
 no_pass : (programs : List Program) (k : ℕ) → ((has_program programs k ≡ true) → k ≤ 67 → ⊥)
     → IsNone (callers_in programs) (length (callers_in programs)) k
 no_pass programs k none i within is =
@@ -64,7 +64,7 @@ all_home programs here s home = none_out s.stands (λ k. ⊎_elim
     (λ hasnt. ap is_out (home.rest k (no_pass programs k (λ has _. both_ways (has_program programs k) hasnt has))))
     (cases_Bool (has_program programs k)))
 
--- what is known of a pass that was taken in
+-- the facts of a joined pass
 module _ (o : Setup) (here : TableId) (s : StewardView) (world : WorldState) (log : Logged) (stop : Option Full) (whole : IsWhole o.start o.limits s world log stop) (home : AllHome o.programs here s) (known_callers : AreOfCallers o.programs) where
   part : (place : ℕ) (x : PassView) → slice_get s.joined place ≡ Some x
       → IsPart o.start log.entries stop x
@@ -76,7 +76,7 @@ module _ (o : Setup) (here : TableId) (s : StewardView) (world : WorldState) (lo
       → program_of o.programs x.number ≡ Some program → Works program x
   works place x program is known = (home.ran place x is).1.works program known
 
-  -- a pass that met no stop, where there is none
+  -- a pass that met no stop, if there is none
   unstopped : (x : PassView) → IsPart o.start log.entries stop x → stop ≡ None
       → (met : Option (Seal Full)) → x.stop ≡ met → x.stop ≡ None
   unstopped x is none None met = met
@@ -150,7 +150,7 @@ module _ (o : Setup) (here : TableId) (s : StewardView) (world : WorldState) (lo
       let caller : (caller : ℕ) × Names caller = named stop refl in
       right o log.entries stop caller.0 (closed caller.0 caller.1) (ended caller.0 caller.1)
 
--- what comes of the race of a session, once all is taken in
+-- the run of a race of a session, after all passes were joined
 pub race_right : RaceIsRight → (s : SessionView) (start : WorldState) (most : Limits) (programs : List Program) (here : TableId) (steward : StewardView) (run : Run)
     → AreOfCallers s.programs → LegalAreRight s
     → start ≡ start_of s → most ≡ s.limits → programs ≡ s.programs

@@ -3,7 +3,7 @@ use Rattle.std.proofs.Common.{◌≡◌, ℕ, ◌+◌, ◌<◌, List, ◌++◌, 
 use Rattle.std.proofs.lemmas.Option.{slice_get_within, get_or_from_slice_get}
 use Rattle.std.specs.List.{flat_map, slice_get}
 
--- what is left of a list gives the next element's piece, and then the others'
+-- the rest of a list has the next element's piece, and then the others'
 flat_map-drop : {A : Type 0} (f : A → List ℕ) (xs : List A) (i : ℕ) (x : A)
     → slice_get xs i ≡ Some x
     → flat_map f (drop i xs) ≡ f x ++ flat_map f (drop (i + 1) xs)
@@ -12,7 +12,7 @@ flat_map-drop f xs i x is =
     ap (flat_map f) (drop-cons xs i x within)
     ∙ (λ j. f (get_or_from_slice_get xs i x x is j) ++ flat_map f (drop (sym (add-one i) j) xs))
 
--- the text so far and what is left stay the whole, where the next piece was added
+-- the text so far and the rest stay the whole when the next piece is added
 pub text_more : {A : Type 0} (f : A → List ℕ) (xs : List A) (i : ℕ) (x : A)
     (old new whole : List ℕ) → slice_get xs i ≡ Some x
     → new ≡ old ++ f x → old ++ flat_map f (drop i xs) ≡ whole

@@ -36,7 +36,7 @@ now_is o t view p e next_is shut at =
     sym (ap (λ w. is_waiting w p) at.replayed) ∙ shut in
     next_is ∙ ap (λ b. if b then None else next_by o.programs p t.history) (sym waits)
 
--- and who has no program
+-- and a caller without a program
 none_of : (waits : Bool) → ◌≡◌ {A = Option Event} (if waits then None else None) None
 none_of true = refl
 none_of false = refl
@@ -81,7 +81,7 @@ pub not_stopped : (stop : Option Full) → is_some stop ≡ false → stop ≡ N
 not_stopped None is = refl
 not_stopped (Some full) is = absurd (true≢false is)
 
--- the entries as they are meant are as many, and count for as much
+-- the entries without rooms of bytes are as many, and have the same charge
 pub lengths : (o : Setup) (t : Played) (view : PlayerView) → IsAt o t view
     → length view.log.entries ≡ length t.history
 lengths o t view at = sym (length-map view.log.entries plain_entry) ∙ ap length at.history
@@ -123,7 +123,7 @@ turn-calls o t p now going is =
     ap (λ stop. if is_some stop then t else calls o p (call_now o t.history p) t.history) going
     ∙ ap (λ e. calls o p e t.history) is
 
--- where nothing is called, nothing changes
+-- if nothing is called, nothing changes
 pub turn_skips : (o : Setup) (t : Played) (p : ℕ) (view : PlayerView) → view.stop ≡ None
     → None ≡ call_now o t.history p → IsAt o t view → IsAt o (turn o p t) view
 turn_skips o t p view going none at =
@@ -132,7 +132,7 @@ turn_skips o t p view going none at =
     (λ i. record { history = t.history; stop = stop i }) ∙ sym (turn-calls o t p None stop (sym none)) in
     subst (λ x. IsAt o x view) same at
 
--- where there is room, the call is entered
+-- if there is room, the call is entered
 pub turn_enters : (o : Setup) (t : Played) (p : ℕ) (e : Event) (before view : PlayerView)
     → HasRoom before.log (charge_of e) → IsAt o t before → t.stop ≡ None
     → call_now o t.history p ≡ Some e
@@ -146,7 +146,7 @@ turn_enters o t p e before view room at going now entered =
     turn-calls o t p (Some e) going now ∙ ap (λ b. if b then enters else full) test in
     subst (λ x. IsAt o x view) (sym same) entered
 
--- where there is none, the play stops
+-- if there is none, the play stops
 pub turn_fills : (o : Setup) (t : Played) (p : ℕ) (e : Event) (before : PlayerView) (full : Full)
     → (HasRoom before.log (charge_of e) → ⊥) → IsAt o t before → t.stop ≡ None
     → call_now o t.history p ≡ Some e

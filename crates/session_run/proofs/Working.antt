@@ -1,4 +1,4 @@
--- What the worker of one caller knows of its calls.
+-- The worker of one caller and its calls.
 use Rattle.std.proofs.Common.{◌≡◌, ◌⊎◌, ℕ, Bool, true, false, ⊎_elim, inl, inr, true≢false, List, [], ◌∷◌, ◌++◌, map, Option, Some, None, refl, sym, ap, ◌∙◌, subst}
 use Rattle.std.proofs.lemmas.Bool.{cases_Bool}
 use Rattle.std.proofs.lemmas.List.{map-append}
@@ -35,7 +35,7 @@ pub record AtWork (program : Program) (walk : Place) (here : TableId) (number : 
   pub run : IsRun program q.mine
   pub stands : IsWalkAfter program walk (map call_of q.mine)
 
--- what a walk gives as the next call
+-- the next call of a walk
 abbrev pub Gives : Program → Place → Option Event → Type 0
 Gives program walk e = (made : List Call) → Stands program walk made → e ≡ next program made
 
@@ -56,7 +56,7 @@ wait_plain : (r : Reply) → is_wait (plain_reply r) ≡ is_wait r
 wait_plain (reply.Text b) = refl
 wait_plain r = refl
 
--- where the next call isn't waitend, the last answer wasn't wait
+-- if the next call isn't waitend, the last answer wasn't wait
 pub not_waiting : NextIsMeant → WaitsAreEnded → (program : Program) (walk : Place) (here : TableId) (number : ℕ) (q : PassView) (e : Event)
     → AtWork program walk here number q → Gives program walk (Some e) → ends_wait e ≡ false
     → awaits q.mine ≡ false

@@ -12,11 +12,11 @@ use Rattle.vt_base.specs.Limits.{callers}
 abbrev pub has_program : List Program → ℕ → Bool
 has_program programs p = is_some (program_of programs p)
 
--- those who have a program, rising
+-- the callers that have a program, rising
 unfoldable pub callers_in : List Program → List ℕ
 callers_in programs = filter (has_program programs) (range_with_len 0 callers)
 
--- where caller p of this program is a process, its hook is at the place of its number
+-- if caller p of this program is a process, its hook is at the place of its number
 abbrev pub HasHook : List (List Act) → ℕ → Program → Type 0
 HasHook tables p program =
     keyboard_of p ≡ None → (p ≤ length tables) × HasActs program (slice_index_or tables (p - 1) [])

@@ -16,11 +16,11 @@ use Rattle.vt_events.specs.Kinds.{text}
 use Rattle.vt_events.specs.declared.event.Event.{Event}
 use Rattle.vt_events.specs.declared.event.Event.TheVariants as event
 
--- what a draw makes of the number that was drawn last
+-- the number that a draw makes of the number that was drawn last
 abbrev pub next_draw : ℕ → ℕ
 next_draw x = (x * 6364136223846793005 + 1442695040888963407) % 2 ^ 64
 
--- what is made of draws: from the number drawn last, the value and the number drawn last then
+-- a value made by draws: from the number drawn last, the value and the number drawn last then
 abbrev pub Draws : Type 0 → Type 0
 Draws A = ℕ → A × ℕ
 
@@ -32,7 +32,7 @@ below m x = (next_draw x / 2 ^ 33 % m, next_draw x)
 abbrev pub just : {A : Type 0} → A → Draws A
 just a x = (a, x)
 
--- the draws of one, and then those of what it gives
+-- the draws of one, and then those that follow from its value
 infixl 10 ◌>>=◌
 abbrev pub ◌>>=◌ : {A B : Type 0} → Draws A → (A → Draws B) → Draws B
 (first >>= more) x = more (first x).0 (first x).1
@@ -106,7 +106,7 @@ item p = do
   kind ← below 8
   item_of kind
 
--- what process p calls first: an odd one handles its console's switches
+-- the first calls of process p: an odd one handles its console's switches
 abbrev pub opening_calls : ℕ → List Event
 opening_calls p =
     event.OpenCon p ∷ (if p % 2 == 1 then event.SetMode 0 1 0 10 12 0 ∷ [] else [])
@@ -121,7 +121,7 @@ script n p = do
   items ← each item n 0
   just (program.Script (make_listed (opening_calls p ++ items)) drill_hooks)
 
--- a key that goes down and up, so often
+-- a key that goes down and up, so many times
 abbrev pub keys : ℕ → List ℕ
 keys zero = []
 keys (suc n) = 0x1E ∷ 0x9E ∷ keys n

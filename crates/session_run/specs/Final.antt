@@ -31,7 +31,7 @@ abbrev pub place_text : ℕ → Option TerminalState → Queue → List ℕ
 place_text n None queue = []
 place_text n (Some t) queue = console_text n t.machine.state t.bells queue
 
--- console n, where it is allocated
+-- console n, if it is allocated
 abbrev pub text_at : WorldState → ℕ → List ℕ
 text_at w n = place_text n (terminal_at w.terminals n) (input_at w.inputs n).queue
 

@@ -1,4 +1,4 @@
--- A play on its way. No public clause names this.
+-- A play that goes on. No public clause names this.
 use Rattle.std.specs.Prelude.{◌≡◌, Option}
 use Rattle.session_order.specs.Ends.{Setup}
 use Rattle.session_order.specs.Meant.{plain_history}
@@ -9,7 +9,7 @@ use Rattle.vt_journal.specs.declared.full.Full.{Full}
 use Rattle.vt_world.specs.History.{replay}
 use Rattle.vt_world.specs.State.{WorldState}
 
--- what contracts see of `Player`: a console, its journal, how far each caller is, and where the play
+-- `Player`, as contracts see it: a machine, its journal, how far each caller is, and where the play
 -- stopped
 pub record PlayerView : Type 0 where
   pub world : WorldState

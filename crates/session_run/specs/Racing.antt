@@ -1,4 +1,4 @@
--- A race on its way. No public clause names this.
+-- A race that goes on. No public clause names this.
 use Rattle.std.specs.Prelude.{◌≡◌, ℕ, ◌<◌, true, List, [], length, map, Some, None, slice_get, slice_index_or}
 use Rattle.atomic_table.specs.Seated.{TableId}
 use Rattle.session_order.specs.Calls.{call_of}
@@ -11,7 +11,7 @@ use Rattle.vt_hub.specs.Views.{PassView, StewardView, stand_at}
 use Rattle.vt_hub.specs.declared.pass_place.PassPlace.TheVariants.{Unmade, Home}
 use Rattle.vt_journal.specs.declared.full.Full.{Full}
 
--- what a worker leaves: a run of its program, to the end or to where it met the stop, which is by its
+-- the work of a worker: a run of its program, to the end or to the stop that it met, which is by its
 -- next call if it is its own
 pub record Works (program : Program) (q : PassView) : Type 0 where
   pub run : IsRun program q.mine
@@ -36,21 +36,20 @@ AreFresh here callers passes =
 abbrev pub IsNone : List ℕ → ℕ → ℕ → Type 0
 IsNone callers n k = (i : ℕ) → i < n → slice_index_or callers i 0 ≡ k → ⊥
 
--- passes were made for the first n of these callers alone, and none was taken in
+-- passes were made for the first n of these callers alone, and none was joined
 pub record IsSplit (here : TableId) (callers : List ℕ) (n : ℕ) (s : StewardView) : Type 0 where
   pub own : s.hub ≡ here
   pub size : length s.stands ≡ 68
   pub rest : (k : ℕ) → IsNone callers n k → stand_at s.stands k ≡ Unmade
   pub none_home : s.joined ≡ []
 
--- the pass of caller n, as it comes back from the worker of that caller's program
+-- the pass of caller n after the worker of that caller's program
 pub record HasRun (programs : List Program) (here : TableId) (n : ℕ) (q : PassView) : Type 0 where
   pub own : q.hub ≡ here
   pub numbered : q.number ≡ n
   pub works : (program : Program) → program_of programs n ≡ Some program → Works program q
 
--- of the callers that have a program, the passes of the first n were taken in, each as its worker left
--- it
+-- of the callers that have a program, the passes of the first n were joined, each as its worker left it
 pub record AreHome (programs : List Program) (here : TableId) (n : ℕ) (s : StewardView) : Type 0 where
   pub own : s.hub ≡ here
   pub size : length s.stands ≡ 68

@@ -1,4 +1,4 @@
--- What plays a session, and what comes of it. This project's own.
+-- The hooks that play a session, and the run. This project's own.
 use Rattle.std.specs.Prelude.{◌≡◌, List, Option, Some, None, filter_map}
 use Rattle.session_order.specs.Meant.{plain_history}
 use Rattle.session_order.specs.Serial.{Played}
@@ -19,16 +19,16 @@ table_of (program.Script items table) = Some table
 pub record HasHooks (programs : List Program) (tables : List (List Act)) : Type 0 where
   pub acts : tables ≡ filter_map table_of programs
 
--- a call that makes a handler of a table: it may be called on each, and what it gives answers by that
+-- a function that makes a handler of a table: it takes every table, and the handler answers by that
 abbrev pub MakesHandlers : {H : Type 0} → (List Act → Type 0) → (List Act → H → Type 0)
     → (H → List Act → Type 0) → Type 0
 MakesHandlers may_call gives answers =
     (table : List Act) → may_call table × ((h : _) → gives table h → answers h table)
 
--- the history of a run, as it is meant, and where it stopped
+-- the history of a run without rooms of bytes, and where it stopped
 abbrev pub run_result : Run → Played
 run_result run = record { history = plain_history run.log.entries; stop = run.stop }
 
--- the run has a right history of the session, and its console is the one after it
+-- the run has a right history of the session, and its machine is the one after it
 abbrev pub IsRightRun : SessionView → Run → Type 0
 IsRightRun s run = IsRightHistory s run.world run.log.entries (tail_at run.log.entries run.stop)

@@ -1,4 +1,4 @@
-//! The callers of a session that have a program, and what each calls next.
+//! The callers of a session that have a program, and the next call of each.
 ghost use Rattle.std.specs.Prelude.{◌≡◌, List, IfOk};
 ghost use Rattle.session_run.specs.Callers.{HasHook, callers_in};
 ghost use Rattle.session_text.specs.Programs.{Call, next};
@@ -13,7 +13,7 @@ use vt_events::Event;
 /// How many callers there are.
 const CALLERS: u16 = 68;
 
-/// Those who have a program, rising.
+/// The callers that have a program, rising.
 pub(crate) fn callers_in(alloc: Global, programs: &[Program]) -> Result<Vec<CallerNo>, NoMemory>
     ensures { IfOk result (λ callers. callers.items ≡ callers_in programs.now) }
 {
@@ -27,8 +27,8 @@ pub(crate) fn callers_in(alloc: Global, programs: &[Program]) -> Result<Vec<Call
     Ok(callers)
 }
 
-/// The next call of caller `p` by its program, where that isn't over. A process has a hook, which says
-/// what is done at signals.
+/// The next call of caller `p` by its program, if that isn't over. A process has a hook, which determines
+/// its acts at signals.
 pub(crate) fn next_call<H: Handler>(
     alloc: Global,
     walk: &Walk,

@@ -59,7 +59,7 @@ fn tables(alloc: Global) -> Result<KeyTables, NoMemory>
     }
 }
 
-// What its processes begin with.
+// The state in which its processes begin.
 fn starts() -> ProcList
     ensures { result ≡ map (λ p. record { home = p; privileged = true }) (range_with_len 1 8) }
 {
@@ -89,7 +89,7 @@ fn programs(alloc: Global, n: usize, seed: u64) -> Result<Vec<Program>, NoMemory
     Ok(list)
 }
 
-// A key that goes down and up, so often.
+// A key that goes down and up, so many times.
 fn keys(alloc: Global, n: usize) -> Result<Bytes, NoMemory>
     requires { n ≤ 10_000 }
     ensures keys { IfOk result (λ bytes. bytes ≡ text (keys n)) }
@@ -152,7 +152,7 @@ fn first_calls(alloc: Global, n: usize, p: u16) -> Result<Items, NoMemory>
     }
 }
 
-// What each process does at signals.
+// The act of each process at signals.
 fn hooks() -> HookTable
     ensures { result ≡ drill_hooks }
 {

@@ -3,7 +3,7 @@ ghost use Rattle.session_run.specs.Drill.{below};
 
 use std::marker::Model;
 
-/// What a draw multiplies by, and what it adds. This project's own.
+/// The factor and the summand of a draw. This project's own.
 const FACTOR: u64 = 6_364_136_223_846_793_005;
 
 const STEP: u64 = 1_442_695_040_888_963_407;

@@ -112,7 +112,7 @@ fn add_screen_line(alloc: Global, text: &mut Bytes, numbers: &[u32]) -> Result<(
     Ok(())
 }
 
-// The line behind the rows.
+// The line after the rows.
 fn add_queue_line(alloc: Global, text: &mut Bytes, n: u16, queue: &InQueue) -> Result<(), NoMemory>
     ensures { OnOk result (text.new.bytes ≡ text.old.bytes ++ line_text (queue_words n queue.now)) }
 {
@@ -126,7 +126,7 @@ fn add_queue_line(alloc: Global, text: &mut Bytes, n: u16, queue: &InQueue) -> R
     Ok(())
 }
 
-// The bytes that a queue has.
+// The bytes in a queue.
 fn bytes_of(alloc: Global, queue: &InQueue) -> Result<Bytes, NoMemory>
     ensures { IfOk result (λ bytes. bytes.bytes ≡ queue.now.bytes) }
 {

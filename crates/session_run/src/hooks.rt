@@ -1,5 +1,5 @@
 //! The hooks of a session's processes.
-ghost use Rattle.std.specs.Prelude.{◌≡◌, IfOk};
+ghost use Rattle.std.specs.Prelude.{IfOk};
 ghost use Rattle.session_run.specs.Runs.{HasHooks, MakesHandlers};
 
 use session_text::Program;

@@ -8,6 +8,7 @@ mod drill_items;
 mod final_map;
 mod final_texts;
 mod hooks;
+mod pace;
 mod passes;
 mod player;
 mod racing;

@@ -1,10 +1,11 @@
-//! The passes of a race: made, lent to the workers, and taken in again.
+//! The passes of a race: made, lent to the workers, and joined.
 ghost use Rattle.std.specs.Prelude.{◌≡◌, ℕ, ◌<◌, [], None, length, vec_len, IfOk, OnOk, slice_index_or};
 ghost use Rattle.std.specs.List.Sorted.{IsStrictlyIncreasing};
 ghost use Rattle.std.specs.Thread.{IsSync};
 ghost use Rattle.session_run.specs.Callers.{AreHooked, callers_in};
 ghost use Rattle.session_run.specs.Racing.{AreFresh, AreHome, HasRun, IsSplit};
 
+use crate::pace::Pace;
 use crate::worker::work;
 use session_text::{Program, program_of};
 use sig_hooks::{Handler, Hook};
@@ -36,7 +37,7 @@ pub(crate) fn split_all<J: Opening>(
     Ok(passes)
 }
 
-/// Runs the worker of each pass in a thread of its own: what each gives, in order.
+/// Runs the worker of each pass in a thread of its own: their results, in order.
 pub(crate) fn work_all<
     J: Opening + Send + Sync,
     H: Handler + Send + Sync,
@@ -58,12 +59,14 @@ pub(crate) fn work_all<
         → IfOk (slice_index_or ran.items i d)
         (λ q. HasRun programs.now seat.now (slice_index_or callers.now i 0) q)) }
 {
+    let pace = Pace::of(callers.len());
+    let pace = &pace;
     let run = move |pass: Pass<J>| -> Result<Pass<J>, NoMemory>
         requires { IsSync R.row × IsSync G.row
             × (pass.hub ≡ seat.now) × (pass.mine ≡ []) × (pass.stop ≡ None)
             × AreHooked programs.now hooks.now }
         ensures { IfOk result (λ q. HasRun programs.entry.now seat.entry.now pass.number q) }
-    { work_one(seat, pass, programs, hooks, gate) };
+    { work_one(seat, pass, programs, hooks, gate, pace) };
     Ok(thread::map_vec(seat.rt, passes, &run)?)
 }
 
@@ -74,6 +77,7 @@ fn work_one<J: Opening, H: Handler, G: Gate, R: Wait>(
     programs: &[Program],
     hooks: &[Hook<H>],
     gate: &G,
+    pace: &Pace,
 ) -> Result<Pass<J>, NoMemory>
     requires own { pass.hub ≡ seat.now }
     requires fresh { (pass.mine ≡ []) × (pass.stop ≡ None) }
@@ -83,10 +87,13 @@ fn work_one<J: Opening, H: Handler, G: Gate, R: Wait>(
     let Some(program) = program_of(programs, pass.number()) else {
         return Ok(pass);
     };
-    work(seat, pass, program, hooks, gate)
+    let mut stride = pace.begin();
+    let ran = work(seat, pass, program, hooks, gate, &mut stride);
+    stride.end();
+    ran
 }
 
-/// Takes every pass in again.
+/// Joins every pass.
 pub(crate) fn join_all<J: Opening>(
     hub: &Hub<J>,
     steward: &mut Steward<J>,

@@ -17,7 +17,7 @@ use vt_hub::Run;
 use vt_journal::{Full, Log};
 use vt_world::{World, legal_grows};
 
-/// A console, its journal so far, how far each caller is, and where the play stopped.
+/// A machine, its journal so far, how far each caller is, and where the play stopped.
 #[derive(Drop)]
 pub(crate) struct Player {
     pub(crate) world: World,
@@ -40,7 +40,7 @@ impl Model for Player {
 }
 
 impl Player {
-    /// Nothing is called yet.
+    /// A play in which nothing was called yet.
     pub(crate) fn open(alloc: Global, s: &Session) -> Result<Player, NoMemory>
         ensures { IfOk result (λ player. IsAt (setup_of s.now) nothing_played player) }
     {
@@ -56,7 +56,7 @@ impl Player {
         })
     }
 
-    /// Makes p's call, or stops where it finds no room.
+    /// Makes p's call, or stops if there is no room for it.
     pub(crate) fn call(
         &mut self,
         alloc: Global,
@@ -82,7 +82,7 @@ impl Player {
         Ok(())
     }
 
-    /// What came of the play.
+    /// The run that was played.
     pub(crate) fn end(self) -> Run
         ensures world { result.world ≡ self.world }
         ensures log { result.log ≡ self.log }

@@ -1,4 +1,4 @@
-ghost use Rattle.std.specs.Prelude.{◌≡◌, IfOk};
+ghost use Rattle.std.specs.Prelude.{IfOk};
 ghost use Rattle.session_order.specs.Serial.{IsSerial};
 ghost use Rattle.session_order.specs.Sessions.{setup_of};
 ghost use Rattle.session_run.specs.Runs.{IsRightRun, MakesHandlers, run_result};

@@ -41,7 +41,7 @@ impl Player {
         }
     }
 
-    // The call that p can make: none while it waits, and where its program is over.
+    // The call that p can make: none while it waits, and none if its program is over.
     fn next<H: Handler>(
         &self,
         alloc: Global,

@@ -4,6 +4,7 @@ ghost use Rattle.session_run.specs.Callers.{HasHook};
 ghost use Rattle.session_run.specs.Racing.{Works};
 
 use crate::callers::next_call;
+use crate::pace::Stride;
 use session_order::{meant_laws, race_laws};
 use session_text::{Program, Walk, waits_are_ended};
 use sig_hooks::{Handler, Hook};
@@ -13,13 +14,14 @@ use vt_hub::{Answer, Opening, Pass, Seat};
 use vt_io::Gate;
 
 /// Makes the calls of the program, one after another, until it is over or the hub has stopped. The
-/// gate is asked before each; the hook of a process says what is done at signals.
+/// gate is asked before each; the hook of a process determines its acts at signals.
 pub(crate) fn work<J: Opening, H: Handler, G: Gate, R: Wait>(
     seat: &Seat<J, R>,
     pass: Pass<J>,
     program: &Program,
     hooks: &[Hook<H>],
     gate: &G,
+    stride: &mut Stride<'_>,
 ) -> Result<Pass<J>, NoMemory>
     requires own { pass.hub ≡ seat.now }
     requires fresh { (pass.mine ≡ []) × (pass.stop ≡ None) }
@@ -42,7 +44,10 @@ pub(crate) fn work<J: Opening, H: Handler, G: Gate, R: Wait>(
         gate.before(seat.rt, p, seq);
         seq = seq.saturating_add(1);
         match seat.ask(&mut pass, event)? {
-            Answer::Done { reply, .. } => walk.took(program, &reply),
+            Answer::Done { at, reply } => {
+                stride.made(at, &reply);
+                walk.took(program, &reply);
+            }
             Answer::Full(_) => return Ok(pass),
         }
     }

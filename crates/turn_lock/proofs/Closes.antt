@@ -1,4 +1,4 @@
--- The lock closes: the value is at home, and tells the history.
+-- The lock closes: the value is in the slot, and shows the history.
 use Rattle.std.proofs.Common.{inl, inr, ◌≡◌, ℕ, Bool, true, false, List, [], get_or}
 use Rattle.std.proofs.Common.{sym, refl, ap, ◌∙◌, subst, Option, Some, None}
 use Rattle.std.proofs.lemmas.List.{get_or_default}
@@ -34,7 +34,7 @@ module _ {W Z : Type 0} where
       q = (ap (λ (i : ℕ). among i made) (sym h) ∙ q.2, ap seat_of (sym h) ∙ q.3)
   caller_named seat_of made joined j n Spent h q = absurd h
 
--- what the value tells that `close` gives
+-- the facts of the value that `close` returns
 pub record Closes {K W Z : Type 0} (before : ℕ) (entries : K → List (Entry W))
     (seal : K → Option (Seal Z)) (v : View W Z) (k : K) : Type 0 where
   pub seen : StartsWith (entries k) v.seen
@@ -49,7 +49,7 @@ pub record Closes {K W Z : Type 0} (before : ℕ) (entries : K → List (Entry W
 
 module _ {K W Z : Type 0} (before : ℕ) (entries : K → List (Entry W)) (seal : K → Option (Seal Z))
     (Right : List (Entry W) → Type 0) where
-  -- where each pass was taken in, none has its turn
+  -- if each pass was joined, none has its turn
   all_home : (joined : List (Joined W Z)) (s : State (Option K) (View W Z)) (id : ℕ) (v : View W Z)
       → (a : PartA joined s) → get_elem? s.views id ≡ some v
       → IsFirst v.role → v.stage ≡ Idle → AllJoined v.role → a.out ≡ false
@@ -79,7 +79,7 @@ module _ {K W Z : Type 0} (before : ℕ) (entries : K → List (Entry W)) (seal 
           absurd (no_turn (a.holder a.serving) x.0 x.1 x.0.role refl
           (a.named (a.holder a.serving) x.0 x.1) x.2)
 
-  -- where each pass was taken in, so was that of the caller which a seal names
+  -- if each pass was joined, so was that of the caller that a seal names
   names : (joined : List (Joined W Z)) (s : State (Option K) (View W Z)) (id : ℕ) (v : View W Z)
       → (a : PartA joined s) → get_elem? s.views id ≡ some v
       → IsFirst v.role → AllJoined v.role → (z : Seal Z) → Named_by s.views joined z
@@ -145,7 +145,7 @@ module _ {K W Z : Type 0} (before : ℕ) (entries : K → List (Entry W)) (seal 
         },
       )
 
-  -- what was taken out of the slot is the value
+  -- the value was in the slot
   pub taken_out : (id : ℕ) (v : View W Z) (words : List ℕ) (slots : List (Option K))
       → IsFirst v.role → v.stage ≡ Idle → AllJoined v.role
       → Final (Seen (Rule before entries seal Right) id v) words slots → (taken : Option K)

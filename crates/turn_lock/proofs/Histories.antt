@@ -1,4 +1,4 @@
--- Beginnings of a history, the entries of one number, and the words of histories.
+-- Prefixes of a history, the entries of one number, and the words of histories.
 use Rattle.std.proofs.Common.{◌≡◌, ◌≢◌, ℕ, suc, ◌+◌, ◌*◌, ◌/◌, ◌%◌, ◌<◌, ◌≤◌, ◌⊎◌, inl, inr, ⊎_elim}
 use Rattle.std.proofs.Common.{Bool, true, false, cond, eqb, ltb, max, List, [], ◌∷◌, ◌++◌, length}
 use Rattle.std.proofs.Common.{take, drop, sym, refl, ap, ◌∙◌, subst, arith, length-append}
@@ -35,7 +35,7 @@ module _ {W : Type 0} where
   starts_length log seen h = let e = ap (λ (l : List (Entry W)). length l) h.1 in
       let f = length-append seen h.0 in omega arith
 
-  -- of two beginnings of one history the shorter begins the longer
+  -- of two prefixes of one history the shorter is a prefix of the longer
   pub starts_between : (xs ys log : List (Entry W)) → StartsWith log xs → StartsWith log ys
       → length xs ≤ length ys → StartsWith ys xs
   starts_between [] ys log p q h = (ys, refl)
@@ -80,7 +80,7 @@ module _ {W : Type 0} where
       let a = p.1 in let p' : log ≡ xs ++ p.0 = cc in let same : x ≡ z = cc in
       let r = starts_whole log xs (p.0, p') (omega arith) in cc
 
-  -- the longer of a beginning and the whole is the whole
+  -- the longer of a prefix and the whole is the whole
   pub longer_whole : (log xs ys : List (Entry W)) → StartsWith log xs → StartsWith log ys
       → (xs ≡ log) ⊎ (ys ≡ log) → longer xs ys ≡ log
   longer_whole log xs ys p q (inl e) =
@@ -103,7 +103,7 @@ module _ {W : Type 0} where
       ∙ (ap (λ (b : Bool). entries_by n log ++ cond b (e ∷ []) []) (ne_eqb e.by n other)
       ∙ append-nil (entries_by n log))
 
-  -- what a history adds to its beginning
+  -- the entries of a history after a prefix
   pub added : (seen more : List (Entry W)) → drop (length seen) (seen ++ more) ≡ more
   added seen more = drop-append_seam seen more
 
@@ -142,7 +142,7 @@ module _ {W : Type 0} where
       (λ n. let l = lt_of_not-le n in let e : a ≡ max a b = omega arith in
       subst (IsWordIn before log) e p)
 
-  -- what the word of a whole history says
+  -- the number of entries and the display in the word of a whole history
   pub word_whole : (before : ℕ) (log : List (Entry W)) (word : ℕ)
       → IsDisplay (display_after before log) → word ≡ word_of before log
       → (word / 64 ≡ length log) × (word % 64 ≡ display_after before log)

@@ -1,4 +1,4 @@
--- Who has which ticket: there are few tickets, and one pass has the value.
+-- The holders of tickets: there are few tickets, and one pass has the value.
 use Rattle.std.proofs.Common.{◌≡◌, ℕ, ◌+◌, ◌-◌, ◌%◌, ◌^◌, ◌<◌, ◌≤◌, Bool, true, List, sym, refl, ap}
 use Rattle.std.proofs.Common.{◌∙◌, subst, arith, Option, Some}
 use mathlib.Core.Option.{some, none}
@@ -61,7 +61,7 @@ module _ {W Z : Type 0} where
   code_apart seat_of made joined i j r Spent h k lr lq e = absurd (lq refl)
 
 module _ {K W Z : Type 0} (joined : List (Joined W Z)) (s : State (Option K) (View W Z)) where
-  -- a pass that was taken in has no ticket
+  -- a joined pass has no ticket
   pub not_gone : (a : PartA joined s) (j : ℕ) (v : View W Z) → get_elem? s.views j ≡ some v
       → (t : ℕ) → HasTicket t v.stage → v.role ≡ Spent → ⊥
   not_gone a j v at t has e = subst (HasTicket t) (ap (λ (u : View W Z). u.stage) (a.gone j v at e))
@@ -107,7 +107,7 @@ module _ {K W Z : Type 0} (joined : List (Joined W Z)) (s : State (Option K) (Vi
       let low = q.0 in let high = q.1 in let bound = few a in
       one_turn a.serving t (2 ^ 64) q.0 (omega arith) (sym same)
 
-  -- the pass that has its turn is the one that has the ticket which is served
+  -- the pass that has its turn has the ticket that is served
   pub in_turn : (a : PartA joined s) (j : ℕ) (v : View W Z) → get_elem? s.views j ≡ some v
       → HasTurn v.stage → (a.holder a.serving ≡ j) × (a.out ≡ true) × (a.serving < a.next)
   in_turn a j v at h = turn_seat a.next a.serving a.holder a.out j v.stage (a.queued j v at) h

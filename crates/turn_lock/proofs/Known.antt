@@ -118,7 +118,7 @@ module _ {K W Z : Type 0} (before : ℕ) (Right : List (Entry W) → Type 0)
             (joined_view v w) (d.read other w at_w, d.read id v at) d.joined_read;
       }
 
-  -- what the word says to the pass that reads it
+  -- the facts of a word that a pass reads
   pub reads : {entries : K → List (Entry W)} → IsDisplay before
       → PartB before entries log (state words homes views)
       → PartD before Right joined log (state words homes views)

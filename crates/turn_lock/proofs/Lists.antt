@@ -11,7 +11,7 @@ module _ {A : Type 0} where
   pick (yes _) a b = a
   pick (no _) a b = b
 
-  -- f, but a at i
+  -- f, except a at i
   pub put : (ℕ → A) → ℕ → A → ℕ → A
   put f i a j = pick (ℕ_discrete j i) a (f j)
 
@@ -36,7 +36,7 @@ module _ {A : Type 0} where
   in_range (x ∷ xs) zero a e = omega arith
   in_range (x ∷ xs) (suc i) a e = let h = in_range xs i a e in omega arith
 
-  -- an element stands behind the last one, or in the list
+  -- an element is the one after the last, or in the list
   pub at_end : (l : List A) (a b : A) (j : ℕ) → get_elem? (l ++ a ∷ []) j ≡ some b
       → (get_elem? l j ≡ some b) ⊎ ((j ≡ length l) × (a ≡ b))
   at_end [] a b zero e = inr (refl, some-injective a b e)
@@ -44,13 +44,13 @@ module _ {A : Type 0} where
   at_end (x ∷ xs) a b zero e = inl e
   at_end (x ∷ xs) a b (suc j) e = ⊎_elim inl (λ t. inr (ap suc t.0, t.1)) (at_end xs a b j e)
 
-  -- where a list holds a and b at one place, they are the same
+  -- if a list holds a and b at one place, they are the same
   pub same_at : (l : List A) (i : ℕ) (a b : A) → get_elem? l i ≡ some a → get_elem? l i ≡ some b
       → a ≡ b
   same_at l i a b p q = some-injective a b (sym p ∙ q)
 
   module _ (P : ℕ → A → Type 0) where
-    -- a fact at each place of a list after a change, an addition behind and one in front
+    -- a fact at each place of a list after a change, an addition at the end and one at the front
     pub each_set : (l : List A) (i : ℕ) (a : A) → P i a
         → ((j : ℕ) (b : A) → j ≢ i → get_elem? l j ≡ some b → P j b) → (j : ℕ) (b : A)
         → get_elem? (set l i a) j ≡ some b → P j b
@@ -77,7 +77,7 @@ module _ {A : Type 0} where
     pub each_one : (a : A) → P 0 a → (j : ℕ) (b : A) → get_elem? (a ∷ []) j ≡ some b → P j b
     each_one a here = each_front [] a here (λ j b e. absurd (some-ne-none b (sym e)))
 
-    -- after a split: one place changed, and one more behind
+    -- after a split: one place changed, and one added at the end
     pub each_split : (l : List A) (i : ℕ) (a c : A) → P i a → P (length l) c
         → ((j : ℕ) (b : A) → j ≢ i → get_elem? l j ≡ some b → P j b)
         → (j : ℕ) (b : A) → get_elem? (set l i a ++ c ∷ []) j ≡ some b → P j b
@@ -92,7 +92,7 @@ module _ {A : Type 0} where
         ⊎_elim (λ t. subst (λ (z : ℕ × A). P z.0 z.1) (λ m. (sym t.0 m, t.1 m)) here)
         (λ t. there j b t.0 ne t.1) (at_set l i j a b at))
 
--- g is f, where f misses m; where f has m, it takes the value of f at n
+-- g is f, unless f is m; then it is the value of f at n
 shrunk : (f : ℕ → ℕ) (n m : ℕ) → ℕ → ℕ
 shrunk f n m i = pick (ℕ_discrete (f i) m) (f n) (f i)
 
@@ -106,7 +106,7 @@ shrunk_cases f n m i = go (ℕ_discrete (f i) m)
     go (yes e) = inl (e, refl)
     go (no ne) = inr (ne, refl)
 
--- no more numbers below n than below m where each of the first has one of the second for itself
+-- n is at most m, if each number below n has a number below m of its own
 pub pigeon : (m n : ℕ) (f : ℕ → ℕ) → ((i : ℕ) → i < n → f i < m)
     → ((i j : ℕ) → i < n → j < n → f i ≡ f j → i ≡ j) → n ≤ m
 pigeon m zero f low apart = omega arith

@@ -1,4 +1,4 @@
--- Part B: `front`, and what passes have seen and published.
+-- Part B: `front`, and the entries that passes have seen and published.
 use Rattle.std.proofs.Common.{◌≡◌, ◌≢◌, ℕ, ◌^◌, ◌<◌, ⊎_elim, Bool, true, false, List, [], ◌∷◌, ◌++◌}
 use Rattle.std.proofs.Common.{length, get_or, set, drop, sym, refl, ap, ◌∙◌, subst, Option, Some}
 use Rattle.std.proofs.Common.{None}
@@ -52,7 +52,7 @@ module _ {W Z : Type 0} where
   owns_number log mine (Caller n) f h = h
   owns_number log mine Spent f h = absurd f
 
-  -- what another pass owns stays where the pass of seat id, whose number is made, publishes
+  -- the entries of another pass stay if the pass of seat id, whose number was made, publishes
   owns_other : (seat_of : ℕ → Option ℕ) (made : List ℕ) (joined : List (Joined W Z))
       (log : List (Entry W)) (e : Entry W) (id j : ℕ)
       → among e.by made ≡ true → seat_of e.by ≡ Some id → j ≢ id

@@ -1,4 +1,4 @@
--- A load of `serving` keeps the rule: where it finds the pass's ticket, the pass takes the value.
+-- A load of `serving` keeps the rule: if it finds the pass's ticket, the pass takes the value.
 use Rattle.std.proofs.Common.{◌≡◌, ◌≢◌, ℕ, ◌%◌, ◌^◌, ◌<◌, ◌≤◌, inl, inr, Bool, true, false, List}
 use Rattle.std.proofs.Common.{◌∷◌, length, get_or, set, sym, refl, ap, ◌∙◌, subst, arith, Option}
 use Rattle.std.proofs.Common.{Some, None}
@@ -74,7 +74,7 @@ module _ {K W Z : Type 0} (before : ℕ) (entries : K → List (Entry W)) (seal 
       let gone : None ≡ Some id = sym (a.each_joined n.0 n.1 n.2).1 ∙ (moved ∙ here) in
       absurd cc
 
-  -- what the pass finds as it takes the value
+  -- the facts that the pass finds when it takes the value
   finds : (joined : List (Joined W Z)) (log : List (Entry W)) (s : State (Option K) (View W Z))
       (id : ℕ) (v : View W Z) → (a : PartA joined s) → PartB before entries log s
       → (c : PartC seal joined log s)
@@ -97,7 +97,7 @@ module _ {K W Z : Type 0} (before : ℕ) (entries : K → List (Entry W)) (seal 
         shown = subst (λ (l : List (Entry W)). IsShown l) tells d.shown;
       }
 
-  -- no pass has the value where a pass that waits has the ticket that is served
+  -- no pass has the value if a pass that waits has the ticket that is served
   not_out : (joined : List (Joined W Z)) (s : State (Option K) (View W Z)) (id : ℕ) (v : View W Z)
       → (a : PartA joined s) → get_elem? s.views id ≡ some v → v.stage ≡ Waits a.serving
       → a.out ≡ false

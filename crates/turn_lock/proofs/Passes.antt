@@ -1,4 +1,4 @@
--- Part A as the lock opens, over a step that changes nothing, and as passes are made and taken in.
+-- Part A when the lock opens, over a step that changes nothing, and when passes are made and joined.
 use Rattle.std.proofs.Common.{◌≡◌, ◌≢◌, ℕ, zero, suc, ◌^◌, ◌<◌, Bool, true, false, ◌||◌, ◌==◌, List}
 use Rattle.std.proofs.Common.{[], ◌∷◌, ◌++◌, length, get_or, set, sym, refl, ap, ◌∙◌, subst, arith}
 use Rattle.std.proofs.Common.{Option, Some, None, length-set}
@@ -42,7 +42,7 @@ among_front n m ms h = or_right (n == m) (among n ms) h
 pub among_here : (n : ℕ) (ms : List ℕ) → among n (n ∷ ms) ≡ true
 among_here n ms = or_left (n == n) (among n ms) (eq-eqb n n refl)
 
--- a number among more is the one in front, or among the others
+-- a number of a list is the first one, or among the others
 pub among_else : (n m : ℕ) (ms : List ℕ) → n ≢ m → among n (m ∷ ms) ≡ among n ms
 among_else n m ms ne = or_false (n == m) (among n ms) (ne_eqb n m ne)
 
@@ -51,7 +51,7 @@ among_apart k n ms in_list not_in_list e = let same : among k ms ≡ among n ms 
     (λ (z : ℕ). among z ms) e in cc
 
 module _ {W Z : Type 0} where
-  -- where the first pass took in one with this number
+  -- the place in the list of joined passes of one with this number
   pub joined_at : (n : ℕ) (js : List (Joined W Z)) → has_joined n js ≡ true
       → (i : ℕ) × (x : Joined W Z) × (get_elem? js i ≡ some x) × (x.number ≡ n)
   joined_at n [] h = absurd cc
@@ -109,7 +109,7 @@ module _ {W Z : Type 0} where
       (h.0, h.1, h.2, put_else seat_of n None k apart ∙ h.3)
   join_named seat_of made joined joined' n other j Spent ne other_seat at h = h
 
-  -- where a number is, after a split and a join
+  -- the place of a number after a split and a join
   split_placed : (views : List (View W Z)) (joined : List (Joined W Z)) (id : ℕ)
       (v left right : View W Z) → get_elem? views id ≡ some v → IsFirst v.role
       → (k : ℕ) (seat : Option ℕ) → Placed views joined k seat

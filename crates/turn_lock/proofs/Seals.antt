@@ -27,7 +27,7 @@ use Rattle.turn_lock.proofs.Histories.{longer_whole}
 use Rattle.turn_lock.proofs.Logs.{sees_all}
 
 module _ {W Z : Type 0} where
-  -- what two passes have met together, where what they have seen are beginnings of the history
+  -- the seal that either of two passes has met, if they have seen prefixes of the history
   join_met : (stop : Option (Seal Z)) (log : List (Entry W)) (p q : Option (Seal Z))
       (xs ys : List (Entry W)) → StartsWith log xs → StartsWith log ys
       → Met stop log p xs → Met stop log q ys → Met stop log (either_seal p q) (longer xs ys)
@@ -37,20 +37,20 @@ module _ {W Z : Type 0} where
   join_met stop log None q xs ys sx sy m (inl e) = inl e
   join_met stop log None q xs ys sx sy m (inr e) = inr (e.0, longer_whole log xs ys sx sy (inr e.1))
 
-  -- where no seal stands, none was met
+  -- if there is no seal, none was met
   met_none : (stop : Option (Seal Z)) (log : List (Entry W)) (p : Option (Seal Z))
       (xs : List (Entry W)) → stop ≡ None → Met stop log p xs → p ≡ None
   met_none stop log p xs e (inl m) = m
   met_none stop log p xs e (inr m) = m.0 ∙ e
 
-  -- a seal that was met is the one that stands
+  -- a seal that was met is the one of the value
   pub met_some : (stop : Option (Seal Z)) (log : List (Entry W)) (p : Option (Seal Z))
       (xs : List (Entry W)) (z : Seal Z) → p ≡ Some z → Met stop log p xs
       → (stop ≡ Some z) × (xs ≡ log)
   met_some stop log p xs z e (inl m) = absurd cc
   met_some stop log p xs z e (inr m) = (sym m.0 ∙ e, m.1)
 
-  -- the caller that a seal names has met it, or had as it was taken in
+  -- the caller that a seal names has met it, or had when it was joined
   abbrev pub Named_by : List (View W Z) → List (Joined W Z) → Seal Z → Type 0
   Named_by views joined z =
       ((j : ℕ) × (u : View W Z) × (get_elem? views j ≡ some u) × IsCaller z.by u.role
@@ -152,7 +152,7 @@ module _ {K W Z : Type 0} (entries : K → List (Entry W)) (before : ℕ) (seal 
     (joined : List (Joined W Z)) (log : List (Entry W)) (words : List ℕ)
     (homes : List (maybe.Option (Option K)))
     (views : List (View W Z)) (id : ℕ) (v : View W Z) where
-  -- the pass publishes, where it has met no seal
+  -- the pass publishes, if it has met no seal
   pub goes_on : (c : PartC seal joined log (state words homes views)) → get_elem? views id ≡ some v
       → HasTurn v.stage → v.seal ≡ None → (more seen : List (Entry W)) (words' : List ℕ)
       → PartC seal joined (log ++ more) (state words' homes (set views id (with_published seen v)))
@@ -175,7 +175,7 @@ module _ {K W Z : Type 0} (entries : K → List (Entry W)) (before : ℕ) (seal 
   home_is deep k k' q = let h = set_here homes 0 (some (Some k)) (omega arith) in
       let z : some (some (Some k)) ≡ some (some (Some k')) = sym h ∙ q in cc
 
-  -- the pass gives back a value that tells the seal that was found, or its own
+  -- the pass gives back a value that shows the seal that was found, or its own
   pub seals_C : (a : PartA joined (state words homes views))
       → PartB before entries log (state words homes views)
       → (c : PartC seal joined log (state words homes views)) → get_elem? views id ≡ some v

@@ -22,7 +22,7 @@ module _ {K W Z : Type 0} where
       → State (Option K) (View W Z)
   state words homes views = record { words = words; homes = homes; views = views }
 
--- a step: what it tells doesn't depend on its numbers
+-- a step: its relation doesn't depend on its numbers
 abbrev pub some_step : {S : Type 0} → Step S
 some_step = step 0 0 0 0 none
 
@@ -30,7 +30,7 @@ module _ {W Z : Type 0} where
   pub not_spent : (r : Role W Z) → IsLive r → r ≡ Spent → ⊥
   not_spent r live e = subst IsLive e live
 
-  -- what holds of the seat of a pass stays with it where the pass changes and keeps its role
+  -- a fact of the seat of a pass stays if the pass changes and keeps its role
   pub replaced : (views : List (View W Z)) (joined : List (Joined W Z)) (id : ℕ) (v w : View W Z)
       → get_elem? views id ≡ some v → w.role ≡ v.role
       → (n : ℕ) (seat : Option ℕ) → Placed views joined n seat
@@ -114,7 +114,7 @@ module _ {K W Z : Type 0} (joined : List (Joined W Z)) (words words' : List ℕ)
 module _ {K W Z : Type 0} (joined : List (Joined W Z)) (words words' : List ℕ)
     (homes : List (maybe.Option (Option K))) (views : List (View W Z)) (id : ℕ) (v w : View W Z)
   where
-    -- where neither the role nor the stage changes, and the tickets and the slot stay, part A stays
+    -- if neither the role nor the stage changes, and the tickets and the slot stay, part A stays
     pub stays : (a : PartA joined (state words homes views)) → get_elem? views id ≡ some v
         → w.role ≡ v.role → IsLive v.role
         → ((next serving : ℕ) (holder : ℕ → ℕ) (out : Bool) (j : ℕ)

@@ -1,5 +1,5 @@
--- Each kind of step keeps the rule: part by part, each from that part and those before it, and with
--- it what the step tells.
+-- Each kind of step keeps the rule, part by part, each from that part and those before it; with it
+-- comes the relation of the step.
 use Rattle.std.proofs.Common.{◌≡◌, ℕ, suc, ◌+◌, ◌%◌, ◌^◌, ◌<◌, Bool, true, false, List, [], ◌∷◌, ◌++◌, length}
 use Rattle.std.proofs.Common.{get_or, set, sym, refl, ap, ◌∙◌, subst, arith, Option, Some, None}
 use Rattle.std.proofs.Common.{length-set, get_or-set_same, get_or-set_other}
@@ -44,7 +44,7 @@ module _ {W : Type 0} where
   held_ticket log (Has u held) h t q = q
 
 module _ {W Z : Type 0} where
-  -- the pass that was taken in last is the only one that has its number
+  -- the pass that was joined last is the only one that has its number
   no_other : (joined : List (Joined W Z)) (x : Joined W Z) (xs : List (Joined W Z)) → joined ≡ x ∷ xs
       → ((i j : ℕ) (y z : Joined W Z) → get_elem? joined i ≡ some y → get_elem? joined j ≡ some z
       → y.number ≡ z.number → i ≡ j)
@@ -176,7 +176,7 @@ module _ {K W Z : Type 0} (before : ℕ) (entries : K → List (Entry W)) (seal 
             let same : k ≡ k' = cc in ap (λ (y : K). (without_turn (seal y) v, [])) same),
       )
 
-  -- a fetch_add of `serving`: the value goes home
+  -- a fetch_add of `serving`: the value is back in the slot
   pub leaves_ok : (slots id : ℕ) (me : Me (Option K) (View W Z)) (v : View W Z) (k : K)
       → me ≡ (v, (0, Some k) ∷ []) → (t : ℕ) → v.stage ≡ Has t v.seen → IsLive v.role
       → entries k ≡ v.seen → MaySeal (seal k) v

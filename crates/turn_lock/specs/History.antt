@@ -10,7 +10,7 @@ abbrev pub IsDisplay : ℕ → Type 0
 IsDisplay display = (0 < display) × (display < 64)
 
 module _ {W : Type 0} where
-  -- the display after the last entry, or `before` where there is none
+  -- the display after the last entry, or `before` if there is none
   abbrev pub display_after : ℕ → List (Entry W) → ℕ
   display_after before [] = before
   display_after before (e ∷ es) = display_after e.display es
@@ -27,7 +27,7 @@ module _ {W : Type 0} where
   abbrev pub entries_by : ℕ → List (Entry W) → List (Entry W)
   entries_by number log = filter (λ (e : Entry W). e.by == number) log
 
-  -- the word is that of the beginning of the history that has as many entries as the word says
+  -- the word is that of a prefix of the history: the one with as many entries as the word counts
   pub record IsWordIn (before : ℕ) (log : List (Entry W)) (word : ℕ) : Type 0 where
     pub within : word / 64 ≤ length log
     pub is : word_of before (take (word / 64) log) ≡ word

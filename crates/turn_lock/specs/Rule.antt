@@ -1,6 +1,6 @@
 -- The rule of the lock, which holds between any two atomic steps. Its state is the words `next`,
--- `serving` and `front`, the slot, and what each pass knows. There is one history: what the value
--- tells where it is at home, else what the pass tells that has it.
+-- `serving` and `front`, the slot, and the knowledge of each pass. There is one history: the one that
+-- the value shows if it is in the slot, and else the one of the pass that has the value.
 use Rattle.std.specs.Prelude.{◌≡◌, ℕ, ◌%◌, ◌^◌, ◌<◌, ◌≤◌, ◌⊎◌, Bool, true, false}
 use Rattle.std.specs.Prelude.{List, [], length, slice_index, Option, Some, None}
 use mathlib.Core.Option.{some, none}
@@ -36,14 +36,14 @@ module _ {W : Type 0} where
   HasTurn (Waits t) = ⊥
   HasTurn (Has t held) = Unit {0}
 
-  -- what the pass tells that has the value
+  -- the history of the pass that has the value
   abbrev pub Holds : List (Entry W) → Stage W → Type 0
   Holds log Idle = Unit {0}
   Holds log (Waits t) = Unit {0}
   Holds log (Has t held) = held ≡ log
 
 module _ {W Z : Type 0} where
-  -- the first pass knows the numbers that were made and the passes that were taken in; every other
+  -- the first pass knows the numbers that were made and the passes that were joined; every other
   -- pass has a number of its own among these
   abbrev pub Named : (ℕ → Option ℕ) → List ℕ → List (Joined W Z) → ℕ → Role W Z → Type 0
   Named seat_of made joined j (First m js) = (j ≡ 0) × (m ≡ made) × (js ≡ joined)
@@ -60,11 +60,11 @@ module _ {W Z : Type 0} where
   abbrev pub EachView : List (View W Z) → (ℕ → View W Z → Type 0) → Type 0
   EachView views P = (j : ℕ) (v : View W Z) → get_elem? views j ≡ some v → P j v
 
-  -- a fact of each pass that was taken in
+  -- a fact of each pass that was joined
   abbrev pub EachJoined : List (Joined W Z) → (Joined W Z → Type 0) → Type 0
   EachJoined joined P = (i : ℕ) (x : Joined W Z) → get_elem? joined i ≡ some x → P x
 
-  -- where the number n is: with the pass j, or with one that was taken in
+  -- the place of the number n: the pass j, or one that was joined
   abbrev pub Placed : List (View W Z) → List (Joined W Z) → ℕ → Option ℕ → Type 0
   Placed views joined n (Some j) = (v : View W Z) × (get_elem? views j ≡ some v) × IsCaller n v.role
   Placed views joined n None =
@@ -90,7 +90,7 @@ pub record PartA {K W Z : Type 0} (joined : List (Joined W Z)) (s : State (Optio
   pub order : serving ≤ next
   pub queued : EachView s.views (λ j v. Queued next serving holder out j v.stage)
   pub named : EachView s.views (λ j v. Named seat_of made joined j v.role)
-  -- a pass that was taken in knows nothing
+  -- a pass that was joined knows nothing
   pub gone : EachView s.views (λ j v. v.role ≡ Spent → v ≡ joined_away)
   pub each_ticket : (t : ℕ) → serving ≤ t → t < next
       → (v : View W Z) × (get_elem? s.views (holder t) ≡ some v) × HasTicket t v.stage
@@ -103,7 +103,7 @@ pub record PartA {K W Z : Type 0} (joined : List (Joined W Z)) (s : State (Optio
       × ((v : View W Z) × (get_elem? s.views (holder serving) ≡ some v) × HasTurn v.stage)
 
 module _ {W Z : Type 0} where
-  -- numbers that were not made have no entry, and those of passes that were taken in have theirs
+  -- numbers that were not made have no entry, and those of joined passes have theirs
   pub record OwnsJoined (log : List (Entry W)) (made : List ℕ) (joined : List (Joined W Z))
       : Type 0 where
     pub unmade : (n : ℕ) → among n made ≡ false → entries_by n log ≡ []
@@ -117,7 +117,7 @@ module _ {W Z : Type 0} where
   Owns log (Caller n) mine = mine ≡ entries_by n log
   Owns log Spent mine = Unit {0}
 
--- B: `front`, and what passes have seen and published
+-- B: `front`, and the entries that passes have seen and published
 pub record PartB {K W Z : Type 0} (before : ℕ) (entries : K → List (Entry W)) (log : List (Entry W))
     (s : State (Option K) (View W Z)) : Type 0 where
   pub front_is : slice_index s.words 2 ≡ word_of before log
@@ -128,11 +128,11 @@ pub record PartB {K W Z : Type 0} (before : ℕ) (entries : K → List (Entry W)
   pub counted : IsCounted log
 
 module _ {W Z : Type 0} where
-  -- who met a seal met the one that stands, and has seen the whole history
+  -- a pass that met a seal met the one that stands, and has seen the whole history
   abbrev pub Met : Option (Seal Z) → List (Entry W) → Option (Seal Z) → List (Entry W) → Type 0
   Met stop log seal seen = (seal ≡ None) ⊎ ((seal ≡ stop) × (seen ≡ log))
 
--- C: the seal. One stands, or none
+-- C: the seal. There is one, or none
 pub record PartC {K W Z : Type 0} (seal : K → Option (Seal Z)) (joined : List (Joined W Z))
     (log : List (Entry W)) (s : State (Option K) (View W Z)) : Type 0 where
   pub stop : Option (Seal Z)
@@ -140,14 +140,14 @@ pub record PartC {K W Z : Type 0} (seal : K → Option (Seal Z)) (joined : List 
   pub in_turn : EachView s.views (λ j v. HasTurn v.stage → v.seal ≡ stop)
   pub met : EachView s.views (λ j v. Met stop log v.seal v.seen)
   pub joined_met : EachJoined joined (λ x. Met stop log x.seal x.seen)
-  -- the caller that it names has met it, or had as its pass was taken in
+  -- the caller that it names has met it, or had when its pass was joined
   pub namer : (z : Seal Z) → stop ≡ Some z
       → ((j : ℕ) × (v : View W Z) × (get_elem? s.views j ≡ some v)
       × IsCaller z.by v.role × (v.seal ≡ Some z))
       ⊎ ((i : ℕ) × (x : Joined W Z) × (get_elem? joined i ≡ some x)
       × (x.number ≡ z.by) × (x.seal ≡ Some z))
 
--- D: what holds of the history, and the words that passes have read, with their histories
+-- D: the fact of the history, and the words that passes have read, with their histories
 pub record PartD {K W Z : Type 0} (before : ℕ) (Right : List (Entry W) → Type 0)
     (joined : List (Joined W Z)) (log : List (Entry W)) (s : State (Option K) (View W Z))
     : Type 0 where
@@ -159,7 +159,7 @@ pub record PartD {K W Z : Type 0} (before : ℕ) (Right : List (Entry W) → Typ
   pub joined_read : EachJoined joined
       (λ x. StartsWith log x.read × StartsWith log x.beside_read)
 
--- the passes that were taken in, the history, and the four parts
+-- the passes that were joined, the history, and the four parts
 abbrev pub Rule : {K W Z : Type 0} → ℕ → (K → List (Entry W)) → (K → Option (Seal Z))
     → (List (Entry W) → Type 0) → State (Option K) (View W Z) → Type 0
 Rule {K} {W} {Z} before entries seal Right s =

@@ -1,5 +1,5 @@
--- What each step tells the pass that makes it: of the step, the pass before, the number found (at a
--- store, the number stored) and the pass after.
+-- The effect of each step: a relation of the step, the pass before, the number found (at a store, the
+-- number stored) and the pass after.
 use Rattle.std.specs.Prelude.{◌≡◌, ◌≢◌, true, false, ℕ, ◌/◌, ◌%◌, ◌^◌, ◌≤◌}
 use Rattle.std.specs.Prelude.{List, [], ◌∷◌, ◌++◌, length, Option, Some}
 use Rattle.atomic_table.specs.Table.{Me, Step}
@@ -13,7 +13,7 @@ use Rattle.turn_lock.specs.Views.{among, joined_of, longer, made_of, ticket_of}
 use Rattle.turn_lock.specs.Views.{with_ticket, with_turn, with_published, without_turn, with_known_word}
 use Rattle.turn_lock.specs.Words.{HasMine, Stands, KnowsOwn, has_joined}
 
--- what a pass finds as its turn comes: a history with this seal
+-- the history and the seal that a pass finds when its turn comes
 pub record Finds {W Z : Type 0} (before : ℕ) (log : List (Entry W)) (seal : Option (Seal Z))
     (v : View W Z) : Type 0 where
   pub seen : StartsWith log v.seen
@@ -25,7 +25,7 @@ pub record Finds {W Z : Type 0} (before : ℕ) (log : List (Entry W)) (seal : Op
   pub counted : IsCounted log
   pub shown : IsShown log
 
--- what a word says to the pass that reads it: it is that of this history
+-- the word that a pass reads is that of this history
 pub record Reads {W Z : Type 0} (before : ℕ) (Right : List (Entry W) → Type 0) (log : List (Entry W))
     (word : ℕ) (v : View W Z) : Type 0 where
   pub is : word ≡ word_of before log
@@ -55,7 +55,7 @@ module _ {K W Z : Type 0} where
   with_value entries seal k m =
       (with_turn (ticket_of m.0.stage) (entries k) (seal k) m.0, (0, Some k) ∷ m.1)
 
-  -- where the number is that of the pass's ticket, it has the value; else nothing changed
+  -- if the number is that of the pass's ticket, it has the value; else nothing changed
   abbrev pub LoadsServing : ℕ → (K → List (Entry W)) → (K → Option (Seal Z))
       → At K → Sat K W Z → ℕ → Sat K W Z → Type 0
   LoadsServing before entries seal st m n m' =
@@ -71,9 +71,9 @@ module _ {K W Z : Type 0} where
   abbrev pub EndsTurn : (K → Option (Seal Z)) → At K → Sat K W Z → ℕ → Sat K W Z → Type 0
   EndsTurn seal st m n m' = (k : K) → m.1 ≡ (0, Some k) ∷ [] → m' ≡ (without_turn (seal k) m.0, [])
 
-  -- the longer of what the first pass and the one that it took in last had seen begins with both, and
-  -- so does the longer of the histories that they had read; that one's number was made, and no other
-  -- that was taken in has it
+  -- of the histories that the first pass and the pass that it joined last had seen, the longer begins
+  -- with both, and so does the longer of those that they had read; the number of the joined pass was
+  -- made, and no other joined pass has it
   abbrev pub ComparesJoined : At K → Sat K W Z → ℕ → Sat K W Z → Type 0
   ComparesJoined st m n m' =
       (m' ≡ m)

@@ -1,4 +1,4 @@
--- What a pass knows, and how each call changes it.
+-- The knowledge of a pass, and its change by each call.
 use Rattle.std.specs.Prelude.{ℕ, ◌==◌, nat_lt, max, Bool, false, ◌||◌, if◌then◌else◌}
 use Rattle.std.specs.Prelude.{List, [], ◌∷◌, ◌++◌, length, drop, Option, Some, None}
 use Rattle.turn_lock.specs.declared.entry.Entry.{Entry}
@@ -16,7 +16,7 @@ among n [] = false
 among n (m ∷ ms) = (n == m) || among n ms
 
 module _ {W Z : Type 0} where
-  -- a pass that was taken in is spent
+  -- a pass that was joined is spent
   abbrev pub IsLive : Role W Z → Type 0
   IsLive (First made joined) = Unit {0}
   IsLive (Caller n) = Unit {0}
@@ -38,7 +38,7 @@ module _ {W Z : Type 0} where
   made_of (Caller n) = []
   made_of Spent = []
 
-  -- the passes that the first pass took in
+  -- the passes that the first pass joined
   abbrev pub joined_of : Role W Z → List (Joined W Z)
   joined_of (First made joined) = joined
   joined_of (Caller n) = []
@@ -60,13 +60,13 @@ module _ {W : Type 0} where
   ticket_of (Has t held) = t
 
 module _ {Z : Type 0} where
-  -- the seal, where either has one
+  -- the seal, if either has one
   abbrev pub either_seal : Option (Seal Z) → Option (Seal Z) → Option (Seal Z)
   either_seal (Some z) other = Some z
   either_seal None other = other
 
 module _ {W Z : Type 0} where
-  -- the first pass, as the lock is opened
+  -- the first pass of a lock that was opened
   abbrev pub newcomer : ℕ → View W Z
   newcomer before = record {
     role = First [] [];
@@ -78,7 +78,7 @@ module _ {W Z : Type 0} where
     seal = None;
   }
 
-  -- a pass that was taken in
+  -- a pass that was joined
   abbrev pub joined_away : View W Z
   joined_away = record {
     role = Spent;
@@ -90,7 +90,7 @@ module _ {W Z : Type 0} where
     seal = None;
   }
 
-  -- the first pass, once it made a pass with the number n
+  -- the first pass after it made a pass with the number n
   abbrev pub with_number : ℕ → View W Z → View W Z
   with_number n v = record v { role = First (n ∷ made_of v.role) (joined_of v.role) }
 
@@ -99,7 +99,7 @@ module _ {W Z : Type 0} where
   abbrev pub as_caller : ℕ → View W Z → View W Z
   as_caller n v = record v { role = Caller n; mine = []; seal = None }
 
-  -- what is kept of a pass w that the first pass v takes in
+  -- the knowledge of a pass w that the first pass v joins
   abbrev pub joined_view : View W Z → View W Z → Joined W Z
   joined_view v w = record {
     number = number_of w.role;
@@ -112,7 +112,7 @@ module _ {W Z : Type 0} where
     beside_read = v.read;
   }
 
-  -- the first pass v, once it took in w
+  -- the first pass v after it joined w
   abbrev pub both : View W Z → View W Z → View W Z
   both v w = record v {
     role = First (made_of v.role) (joined_view v w ∷ joined_of v.role);
@@ -126,11 +126,11 @@ module _ {W Z : Type 0} where
   abbrev pub with_ticket : ℕ → View W Z → View W Z
   with_ticket t v = record v { stage = Waits t }
 
-  -- the pass as its turn has come: the value tells this history and this seal
+  -- the pass at its turn: the value shows this history and this seal
   abbrev pub with_turn : ℕ → List (Entry W) → Option (Seal Z) → View W Z → View W Z
   with_turn t log seal v = record v { stage = Has t log; seen = log; seal = seal }
 
-  -- the pass once it published what this history adds to what it had seen
+  -- the pass after it published the entries of this history beyond those that it had seen
   abbrev pub with_published : List (Entry W) → View W Z → View W Z
   with_published log v = record v {
     stage = Has (ticket_of v.stage) log;
@@ -138,10 +138,10 @@ module _ {W Z : Type 0} where
     mine = v.mine ++ drop (length v.seen) log;
   }
 
-  -- the pass once it gave the value back, which tells this seal
+  -- the pass after it gave back the value, which shows this seal
   abbrev pub without_turn : Option (Seal Z) → View W Z → View W Z
   without_turn seal v = record v { stage = Idle; seal = seal }
 
-  -- the pass once it read this word, which is that of this history
+  -- the pass after it read this word, which is that of this history
   abbrev pub with_known_word : List (Entry W) → ℕ → View W Z → View W Z
   with_known_word log word v = record v { known = word; read = log }

@@ -19,7 +19,7 @@ use Rattle.turn_lock.specs.Rule.{IsCaller, Met}
 use Rattle.turn_lock.specs.Views.{among, IsLive, made_of, joined_of}
 
 module _ {K W Z : Type 0} where
-  -- what a pass knows
+  -- the knowledge of a pass
   abbrev pub view : Pass K W Z → View W Z
   view p = p.place.me.0
 
@@ -31,7 +31,7 @@ module _ {K W Z : Type 0} where
   abbrev pub lock_named : Pass K W Z → TableId
   lock_named p = p.place.table_id
 
-  -- the pass is not inside its lock, and was not taken in
+  -- the pass is not inside its lock, and was not joined
   abbrev pub Rests : Pass K W Z → Type 0
   Rests p =
       (p.place.me.1 ≡ []) × (p.place.me.0.stage ≡ Idle) × IsLive p.place.me.0.role
@@ -40,7 +40,7 @@ module _ {K W Z : Type 0} where
   abbrev pub RestsIn : TurnLock K W Z → Pass K W Z → Type 0
   RestsIn lock p = (lock_named p ≡ name lock) × Rests p
 
-  -- the pass is one of this lock, and has the value: it has seen all that the value told
+  -- the pass is one of this lock, and has the value: it has seen the whole history that the value showed
   abbrev pub HasTurnIn : TurnLock K W Z → Pass K W Z → Type 0
   HasTurnIn lock p =
       (p.place.table_id ≡ name lock)
@@ -61,7 +61,7 @@ module _ {K W Z : Type 0} where
   held_with held value = record { lock = held.lock; pass = held.pass; value = value }
 
 module _ {W Z : Type 0} where
-  -- of the history, the entries of a pass with a number are those that it published
+  -- the entries of a numbered pass in the history are those that it published
   abbrev pub HasMine : List (Entry W) → Role W Z → List (Entry W) → Type 0
   HasMine log (First made joined) mine = Unit {0}
   HasMine log (Caller number) mine = mine ≡ entries_by number log
@@ -71,7 +71,7 @@ module _ {W Z : Type 0} where
   abbrev pub Stands : Option (Seal Z) → List (Entry W) → View W Z → Type 0
   Stands seal log v = (z : Seal Z) → v.seal ≡ Some z → (seal ≡ Some z) × (log ≡ v.seen)
 
-  -- who finds a seal that names it has met that seal before
+  -- a pass that finds a seal with its number has met that seal before
   abbrev pub KnowsOwn : Option (Seal Z) → View W Z → Type 0
   KnowsOwn seal v = (z : Seal Z) → seal ≡ Some z → IsCaller z.by v.role → v.seal ≡ Some z
 
@@ -82,7 +82,7 @@ module _ {W Z : Type 0} where
       (e : Entry W) × (log ≡ v.seen ++ e ∷ []) × (v.role ≡ Caller e.by) × (e.seq ≡ length v.mine)
       × IsDisplay e.display
 
-  -- the seal is the one that was found; where none was, there is none, or one that names the pass
+  -- the seal is the one that was found; if none was, there is none, or one that names the pass
   abbrev pub MaySeal : Option (Seal Z) → View W Z → Type 0
   MaySeal seal v =
       (seal ≡ v.seal)
@@ -92,11 +92,11 @@ module _ {W Z : Type 0} where
   has_joined n [] = false
   has_joined n (x ∷ xs) = (n == x.number) || has_joined n xs
 
-  -- the first pass took in a pass of each number that it made
+  -- the first pass joined a pass of each number that it made
   abbrev pub AllJoined : Role W Z → Type 0
   AllJoined role = (n : ℕ) → among n (made_of role) ≡ true → has_joined n (joined_of role) ≡ true
 
-  -- what a pass that was taken in knew is true of the history and its seal
+  -- the knowledge of a joined pass is true of the history and its seal
   pub record IsPartOf (before : ℕ) (log : List (Entry W)) (seal : Option (Seal Z))
       (x : Joined W Z) : Type 0 where
     pub seen : StartsWith log x.seen
@@ -105,7 +105,7 @@ module _ {W Z : Type 0} where
     pub read : StartsWith log x.read
     pub met : Met seal log x.seal x.seen
 
-  -- the caller that the seal names had met it as its pass was taken in
+  -- the caller that the seal names had met it when its pass was joined
   abbrev pub NamesJoined : Option (Seal Z) → List (Joined W Z) → Type 0
   NamesJoined seal joined = (z : Seal Z) → seal ≡ Some z
       → (i : ℕ) × (x : Joined W Z) × (get_elem? joined i ≡ some x)

@@ -1,4 +1,4 @@
-//! What each step on the table tells, and how passes are made and taken in.
+//! The atomic steps on the table, and the steps that make and join passes.
 ghost use Rattle.turn_lock.specs.Told.{DrawsTicket, LoadsServing, StoresFront, EndsTurn, ComparesJoined, LoadsFront};
 ghost use Rattle.turn_lock.specs.Views.{with_number, as_caller, both, joined_away};
 ghost use Rattle.std.specs.Prelude.{ℕ, List, []};
@@ -18,7 +18,7 @@ impl Picked for Brand {
     ghost number = { 0 };
 }
 
-/// What is published, for the proof alone: the caller picks it.
+/// The entries that are published, for the proof alone: the caller picks them.
 pub(crate) trait Adding<W> {
     ghost more: { List (Entry W) };
 }

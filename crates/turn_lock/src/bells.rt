@@ -20,7 +20,7 @@ impl Bells {
         Ok(Bells { each })
     }
 
-    /// A wait at the bell of this number, which ends when the bell is rung from now on.
+    /// A wait at the bell of this number, which ends at the next ring.
     pub(crate) fn announced(&self, number: u64) -> Option<Key<'_>> {
         let bell = self.each.get((number % BELLS as u64) as usize)?;
         Some(bell.prepare_wait())

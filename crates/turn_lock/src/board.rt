@@ -14,7 +14,7 @@ pub(crate) const SERVING: usize = 1;
 /// The word of the history.
 pub(crate) const FRONT: usize = 2;
 
-/// Where the value lies.
+/// The slot of the value.
 pub(crate) const SLOT: usize = 0;
 
 /// The rule of the lock, which holds between any two atomic steps.

@@ -8,7 +8,7 @@ use std::sync::atomic::Ordering::SeqCst;
 use vt_base::NoMemory;
 
 /// How many turns the others have after a caller was called in, until they stand aside for it.
-const TURNS: u64 = 64;
+const TURNS: u64 = 128;
 
 /// Each caller that comes to the door draws a number from `came`. The numbers below `called` were called
 /// in, and `entered` counts those of them that came in.

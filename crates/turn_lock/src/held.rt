@@ -20,7 +20,7 @@ pub struct Held<'a, K: Kept> {
 }
 
 impl<'a, K: Kept> Held<'a, K> {
-    /// Publishes the entry that the value has after those of the history.
+    /// Publishes the one entry that the value shows beyond the history.
     pub fn publish(&mut self)
         requires own { HasTurnIn (lock_of self.old) (pass_of self.old) }
         requires adds { AddsNext (K.entries (value_of self.old)) (view (pass_of self.old)) }
@@ -60,7 +60,7 @@ impl<'a, K: Kept> Held<'a, K> {
     }
 }
 
-// Stores the word of the history that the value tells.
+// Stores the word of the history that the value shows.
 fn show<K: Kept, J: Adding<K::What>>(lock: &TurnLock<K>, pass: &mut Pass<K>, value: &K, front: u64)
     requires more { K.entries value.now ≡ (view pass.old).seen ++ J.more }
     requires own { HasTurnIn lock.now pass.old }

@@ -1,6 +1,6 @@
 ghost use Rattle.std.specs.Prelude.{◌≡◌, ℕ, ◌<◌, ◌≤◌, ◌^◌, List, Option, length};
 
-/// The value under the lock. It determines a history: a list of entries.
+/// The value under the lock. It shows a history: a list of entries.
 pub trait Kept {
     ghost use Rattle.turn_lock.specs.declared.entry.Entry.{Entry};
     ghost use Rattle.turn_lock.specs.declared.seal.Seal.{Seal};
@@ -15,7 +15,7 @@ pub trait Kept {
     // The display before the first entry.
     ghost before: { ℕ };
 
-    // What holds of every history that a value tells.
+    // A fact of every history that a value shows.
     ghost right: { List (Entry Self.What) → Type 0 };
 
     ghost entries: { Self → List (Entry Self.What) };

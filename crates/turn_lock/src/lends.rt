@@ -11,7 +11,7 @@ use crate::held::Held;
 use crate::kept::Kept;
 
 impl<'a, K: Kept> Held<'a, K> {
-    /// The value. What is written through it is the value from then on.
+    /// The value, to read and to write.
     pub fn value(&mut self) -> &mut K
         ensures* writes_back { sem 𝓛 (follows
             (the_row (record { mir = named 0; lft = [] }) K.row K.What.row K.Stop.row ⟦<K as Kept>⟧)

@@ -114,7 +114,7 @@ impl<K: Kept> TurnLock<K> {
         self.compare(p);
     }
 
-    // Takes in another pass: what both had seen isn't compared yet.
+    // Joins another pass, and compares nothing yet.
     fn take_in(&self, p: &mut Pass<K>, q: Pass<K>)
         requires own { RestsIn self.now p.old }
         requires first { IsFirst (view p.old).role }
@@ -127,9 +127,9 @@ impl<K: Kept> TurnLock<K> {
         self.board.shared.join_seat::<JoinStep>(&mut p.place, place);
     }
 
-    // Compares what the first pass and the one that it took in last had seen, and the histories that
-    // they had read: one begins the other.
-    // Its number was made, and it alone has it.
+    // Compares the first pass with the pass that it joined last. Of the two histories that they had seen
+    // one is a prefix of the other, and so it is with those that they had read. The number of the joined
+    // pass was made, and no other pass has it.
     fn compare(&self, p: &mut Pass<K>)
         requires own { RestsIn self.now p.old }
         requires first { IsFirst (view p.old).role }
@@ -210,8 +210,8 @@ impl<K: Kept> TurnLock<K> {
 
     // The ticket that is served next, if none is out.
     fn idle(&self) -> Option<u64> {
-        // `serving` is read first: if `next` differs from it, whoever has that ticket leaves after this look
-        // began.
+        // `serving` is read first: if `next` differs from it, the caller with that ticket leaves after this
+        // look began.
         let served = self.board.shared.peek(SERVING);
         if self.board.shared.peek(NEXT) == served {
             Some(served)
@@ -274,7 +274,7 @@ impl<K: Kept> TurnLock<K> {
         self.board.shared.load::<LoadFront>(&mut p.place, FRONT)
     }
 
-    /// Closes the lock and returns the value, when all other passes have been joined.
+    /// Closes the lock and returns the value, if all other passes have been joined.
     pub fn close(self, p: Pass<K>) -> K
         requires own { RestsIn self p }
         requires first { IsFirst (view p).role }
@@ -299,7 +299,7 @@ impl<K: Kept> TurnLock<K> {
     }
 }
 
-// Ends the sharing of the table: what the pass knows stands in its last state.
+// Ends the sharing of the table: its last state agrees with the knowledge of the pass.
 fn shut<K: Kept>(board: LockWords<K>, place: Place<K>) -> Closed<Option<K>, Global>
     requires { place.table_id ≡ board.shared.table_id }
     ensures words { slots_len result.words ≡ board.shared.table_id.words }

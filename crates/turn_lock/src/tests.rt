@@ -1,5 +1,5 @@
-//! A list under the lock, with a line for each entry. Expected words are reckoned by hand: 64 for each
-//! entry, and the display of the last line.
+//! A list under the lock, with a line for each entry. Expected words are computed by hand: 64 for each
+//! entry, plus the display of the last line.
 ghost use Rattle.std.specs.Prelude.{◌≡◌, ◌+◌, ◌<◌, ℕ, true, false, None};
 ghost use Rattle.std.specs.Prelude.{List, [], ◌∷◌, ◌++◌, length, map};
 ghost use Rattle.std.specs.Option.{option_map};
@@ -75,7 +75,7 @@ impl Lines {
         }
     }
 
-    // Adds a line where there is room and the list wasn't stopped, and says whether it did.
+    // Adds a line if there is room and the list wasn't stopped, and returns whether it did.
     fn add(&mut self, line: Line) -> bool
         ensures added { result ≡ true
             → ⟦<Lines as Kept>⟧.entries self.new
@@ -98,7 +98,7 @@ impl Lines {
     }
 }
 
-// Publishes a line where there is room and the list wasn't stopped, and says whether it did.
+// Publishes a line if there is room and the list wasn't stopped, and returns whether it did.
 fn publish<R: Wait>(rt: &R, lock: &TurnLock<Lines>, pass: &mut Pass<Lines>, line: Line) -> bool
     requires own { RestsIn lock.now pass.old }
     requires by { (view pass.old).role ≡ Caller line.by }
@@ -117,7 +117,7 @@ fn publish<R: Wait>(rt: &R, lock: &TurnLock<Lines>, pass: &mut Pass<Lines>, line
     true
 }
 
-// Publishes 1,000 lines, and says whether it did.
+// Publishes 1,000 lines, and returns whether it did.
 fn publish_all<R: Wait>(rt: &R, lock: &TurnLock<Lines>, pass: &mut Pass<Lines>, by: u32) -> bool
     requires own { RestsIn lock.now pass.old }
     requires by { (view pass.old).role ≡ Caller by }
@@ -181,7 +181,7 @@ fn race<R: Threads + Wait + Sync>(rt: &R, alloc: Global) -> Result<(u64, Lines, 
     Ok((word, lock.close(first), one.1 && two.1))
 }
 
-// Stops the list where no one did before.
+// Stops the list, unless it was stopped.
 fn stop<R: Wait>(rt: &R, lock: &TurnLock<Lines>, pass: &mut Pass<Lines>, by: u32)
     requires own { RestsIn lock.now pass.old }
     requires by { (view pass.old).role ≡ Caller by }
@@ -197,7 +197,7 @@ fn stop<R: Wait>(rt: &R, lock: &TurnLock<Lines>, pass: &mut Pass<Lines>, by: u32
     held.leave();
 }
 
-// What a pass reads beside another that has the value, and what it finds once the list was stopped.
+// The words that a pass reads while another has the value, and the list after it was stopped.
 #[derive(Drop)]
 struct Beside {
     entered: u64,

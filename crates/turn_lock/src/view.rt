@@ -12,14 +12,14 @@ pub struct Joined<W, Z> {
     pub known: u64,
     pub read: LinkedList<Entry<W>>,
     pub seal: Option<Seal<Z>>,
-    /// What the first pass had seen at that time, and the history that it had read.
+    /// The histories that the first pass had seen and read at that time.
     pub beside: LinkedList<Entry<W>>,
     pub beside_read: LinkedList<Entry<W>>,
 }
 
 /// The kind of a pass.
 pub enum Role<W, Z> {
-    /// The first pass: the numbers that it made, and the passes that it took in, newest first.
+    /// The first pass: the numbers that it made, and the passes that it joined, newest first.
     First(LinkedList<u32>, LinkedList<Joined<W, Z>>),
     /// A pass with a number.
     Caller(u32),
@@ -32,7 +32,7 @@ pub(crate) enum Stage<W> {
     Idle,
     /// It has this ticket.
     Waits(u64),
-    /// Its ticket's turn has come: it has the value, which was found to tell this list.
+    /// Its ticket's turn has come: it has the value, which showed this list.
     Has(u64, LinkedList<Entry<W>>),
 }
 
@@ -40,18 +40,17 @@ pub(crate) enum Stage<W> {
 pub struct View<W, Z> {
     pub role: Role<W, Z>,
     pub stage: Stage<W>,
-    /// The history as far as it was seen. A pass that is split starts with that of the first pass, and
-    /// the first pass takes the longer as it takes in another.
+    /// The history as far as it was seen. A pass that is split starts with that of the first pass, which
+    /// takes the longer of both at a join.
     pub seen: LinkedList<Entry<W>>,
     /// The entries that this pass published.
     pub mine: LinkedList<Entry<W>>,
-    /// The word that was read last, which is the greatest; before the first, that of no entries. A
-    /// pass that is split starts with that of the first pass, and the first pass takes the greater as
-    /// it takes in another.
+    /// The word that was read last, which is the greatest; before the first, that of no entries. A pass
+    /// that is split starts with that of the first pass, which takes the greater of both at a join.
     pub known: u64,
-    /// The history whose word that is. A pass that is split starts with that of the first pass, and the
-    /// first pass takes the longer as it takes in another.
+    /// The history with that word. A pass that is split starts with that of the first pass, which takes
+    /// the longer of both at a join.
     pub read: LinkedList<Entry<W>>,
-    /// The seal, if this pass or one that it took in met it. A pass that is split has met none.
+    /// The seal, if this pass or one that it joined met it. A pass that is split has met none.
     pub seal: Option<Seal<Z>>,
 }

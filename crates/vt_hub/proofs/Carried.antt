@@ -63,7 +63,7 @@ made_carried_entries n w (e ∷ es) =
 pub plain_more : (xs ys : List Carried) → plain (xs ++ ys) ≡ plain xs ++ plain ys
 plain_more xs ys = map-append (λ (e : Carried). e.what) xs ys
 
--- a beginning of what the lock carries begins the journal
+-- a prefix of the carried history is a prefix of the journal
 pub plain_begins : (log xs : List Carried) → StartsWith log xs → BeginsWith (plain log) (plain xs)
 plain_begins log xs is = (plain is.0, ap plain is.1 ∙ plain_more xs is.0)
 
@@ -90,7 +90,7 @@ is_carried_entries w es legal first = record {
   first = first;
 }
 
--- the word of what is carried
+-- the word of the carried history
 pub word_shown : (w : WorldState) (log : List Carried) (word : ℕ) → IsCarried w log
     → word ≡ word_of (display_of w) log → word / 64 ≡ length log
     → (word ≡ 64 * length (plain log) + (replay w (plain log)).display.front)
@@ -127,7 +127,7 @@ word_carried_entries w es first =
     ap (λ n. display_after n (carried_entries w es)) first ∙ display_carried_entries w es in
     let long = length-carried_entries w es in omega (arith, shown, long)
 
--- a word of the beginning of a history is one of a longer history
+-- a word of a prefix of a history is one of the history
 pub word_grown : (before : ℕ) (log more : List Carried) (word : ℕ) → IsWordIn before log word
     → IsWordIn before (log ++ more) word
 word_grown before log more word is = record {

@@ -1,4 +1,4 @@
--- What a pass finds under the lock, and what its look comes to.
+-- The value that a pass finds under the lock, and the result of its look.
 use Rattle.std.proofs.Common.{◌≡◌, ℕ, ◌+◌, ◌*◌, ◌<◌, ◌≤◌, ◌==◌, List, [], ◌∷◌, ◌++◌, length, Option, Some, None, refl, sym, ap, ◌∙◌, subst, arith, length-append}
 use Rattle.std.proofs.lemmas.List.{length-map}
 use Rattle.std.proofs.lemmas.List.Sums.{count_by-le-length, length-filter}
@@ -30,7 +30,7 @@ use Rattle.vt_world.specs.History.{IsLegal, replay}
 use Rattle.vt_world.specs.State.{WorldState, is_waiting}
 use Rattle.vt_world.specs.Step.{step}
 
--- what the pass of this number, with the view v of the lock, finds as it has its turn
+-- the value that the pass of this number, with the view v of the lock, finds at its turn
 pub record Found (start : WorldState) (most : Limits) (number seq : ℕ) (v : View Entry Full)
     (s : SharedView) : Type 0 where
   pub sound : IsSound start most s
@@ -43,7 +43,7 @@ pub record Found (start : WorldState) (most : Limits) (number seq : ℕ) (v : Vi
   pub stands : Stands s.stop (carried_entries start s.log.entries) v
   pub knows : KnowsOwn s.stop v
 
--- from what the lock tells of the value that it gives, which s is
+-- from the clauses of the lock on the value that it returns, which s is
 pub found_from : (start : WorldState) (most : Limits) (number seq : ℕ) (v : View Entry Full)
     (old s : SharedView) → s ≡ old → IsSound start most s → v.role ≡ Caller number
     → seq ≡ length v.mine → StartsWith (carried_entries start old.log.entries) v.seen
@@ -100,7 +100,7 @@ no_seal : (a b : Option (Seal Full)) → ((z : Seal Full) → a ≡ Some z → b
 no_seal None b sure none = refl
 no_seal (Some z) b sure none = let bad : Some z ≡ None = sym (sure z refl) ∙ none in absurd cc
 
--- the stop that stands is answered
+-- the stop of the hub is the answer
 pub met_before : (p : ℕ) (e : Event) (v : SharedView) (z : Seal Full) → v.stop ≡ Some z
     → Stops p e v v z.what
 met_before p e v z is = record {
@@ -141,7 +141,7 @@ module _ (start : WorldState) (most : Limits) (number seq : ℕ) (v : View Entry
       sym (plain-carried_entries start s.log.entries)
       ∙ (ap plain found.begins.1 ∙ plain_more v.seen found.begins.0)
 
-  -- what it had read of the history stands
+  -- the history that it had read is a prefix
   pub kept : BeginsWith s.log.entries (plain v.read)
   kept = begins_plain start s.log.entries v.read found.looked
 
@@ -293,8 +293,8 @@ module _ (start : WorldState) (most : Limits) (number seq : ℕ) (v : View Entry
     waits = ap awaits made ∙ found.sound.tickets number waits.waits;
   }
 
-  -- what its turn comes to, with the views that the lock tells of: as it has its turn, as it published
-  -- the entry, and as it left
+  -- the result of its turn, with the views of the lock at its turn, after it published the entry, and
+  -- after it left
   module _ (hub : TableId) (old : PassView) (is : known_by hub number v ≡ old) (here : TableId)
       (home : here ≡ hub) (ticket : ℕ) (s' : SharedView) (held after : View Entry Full)
       (has : held ≡ with_turn ticket (carried_entries start s.log.entries) s.stop v) where

@@ -1,4 +1,4 @@
--- Lists that grow by one, and what holds at each place of them.
+-- Lists that grow by one, and facts at each place of them.
 use Rattle.std.proofs.Common.{◌≡◌, ◌≢◌, ◌⊎◌, ⊎_elim, inl, inr, ℕ, ◌<◌, arith, Bool, true, false, cond, ◌==◌, List, [], ◌∷◌, ◌++◌, length, take, get_or, Some, refl, sym, ap, ◌∙◌, subst, length-append}
 use Rattle.std.proofs.Math.Seq.{get_or-append_seam, take-append_seam}
 use Rattle.std.proofs.Math.ListN.{get_or-append}
@@ -12,7 +12,7 @@ use Rattle.vt_events.specs.declared.entry.Entry.{Entry}
 use Rattle.vt_hub.specs.Histories.{made_by, waits_by}
 
 module _ {A : Type 0} where
-  -- what stands in a list with one more element: an element of the list, or that one after it
+  -- an element of a list with one more element: an element of the list, or that one
   at_either : (xs : List A) (x : A) (k : ℕ) (y : A) → slice_get (xs ++ x ∷ []) k ≡ Some y
       → (slice_get xs k ≡ Some y) ⊎ ((k ≡ length xs) × (x ≡ y))
   at_either xs x k y is =

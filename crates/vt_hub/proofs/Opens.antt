@@ -1,4 +1,4 @@
--- A hub as it opens: no pass was made.
+-- A hub that was just opened: no pass was made.
 use Rattle.std.proofs.Common.{◌≡◌, ℕ, zero, suc, false, replicate, refl, sym, ap, ◌∙◌, subst}
 use Rattle.turn_lock.specs.Views.{IsFirst, among, joined_of, made_of, newcomer}
 use Rattle.turn_lock.specs.Words as lock

@@ -37,7 +37,7 @@ last_waits : (known : Bool) (es : List Entry) (e : Entry) → waits_by known (es
 last_waits known [] e = refl
 last_waits known (x ∷ es) e = last_waits (is_wait x.reply) es e
 
--- the answer tells how a wait ended, and is no wait itself
+-- the answer is how a wait ended, and is no wait itself
 ended_waits : (w : Waiting) → is_wait (ended_reply w) ≡ false
 ended_waits waiting.Nothing = refl
 ended_waits (waiting.Open ticket) = refl

@@ -1,4 +1,4 @@
--- What lies under the lock stays sound as a call is entered.
+-- The value under the lock stays sound when a call is entered.
 use Rattle.std.proofs.Common.{◌≡◌, ◌≢◌, ⊎_elim, ℕ, true, false, ◌==◌, List, [], ◌∷◌, ◌++◌, length, Option, Some, None, unwrap_or, refl, sym, ap, ◌∙◌, subst, ◌<◌}
 use Rattle.std.proofs.lemmas.List.{append-nil}
 use Rattle.std.proofs.lemmas.List.Sums.{length-filter}
@@ -57,7 +57,7 @@ module _ (start : WorldState) (most : Limits) (v w : SharedView) (p seq : ℕ) (
         (sym of.caller)));
   }
 
-  -- who has an open ticket then was answered "wait" last
+  -- a caller with an open ticket then was answered "wait" last
   waits : TicketsAreCalled → is_waiting v.world p ≡ false → (q : ℕ)
       → is_waiting w.world q ≡ true
       → awaits (made_by q (v.log.entries ++ entry ∷ [])) ≡ true
@@ -110,7 +110,7 @@ module _ (start : WorldState) (most : Limits) (v w : SharedView) (p seq : ℕ) (
         stops = λ z is. let bad : None ≡ Some z = sym goes_on ∙ is in absurd cc;
       }
 
--- a state without a stop stays sound as a stop of this history is set
+-- a state without a stop stays sound when a stop of this history is set
 pub sound_stopped : (start : WorldState) (most : Limits) (v : SharedView) (stop : Seal Full) → IsSound start most v
     → IsStop most v.world v.log.entries stop → IsSound start most (record v { stop = Some stop })
 sound_stopped start most v stop sound is = record {

@@ -1,4 +1,4 @@
--- What a hub gives as it closes, from what the lock gives.
+-- The result of closing a hub, from that of closing the lock.
 use Rattle.std.proofs.Common.{◌≡◌, ⊎_elim, ℕ, zero, suc, false, List, [], ◌∷◌, map, Option, Some, None, refl, sym, ap, ◌∙◌, subst, arith}
 use Rattle.std.specs.List.{All}
 use Rattle.std.specs.Prelude.{option_map, slice_get, slice_index_or}
@@ -30,7 +30,7 @@ use Rattle.vt_world.specs.Tapes.{screen_of, tape_of}
 use Rattle.vt_world.specs.Terminals.{machine_of, terminal_at}
 
 module _ {A B : Type 0} where
-  -- what holds of each of a list holds of each of its images
+  -- a fact of each element of a list is one of each of its images
   all-map : (f : A → B) (P : A → Type 0) (Q : B → Type 0) → ((x : A) → P x → Q (f x))
       → (xs : List A) → All P xs → All Q (map f xs)
   all-map f P Q step [] all k d low = absurd (let bad : ⊥ = omega (arith, low) in bad)
@@ -47,7 +47,7 @@ module _ {A B : Type 0} where
   at-map f (y ∷ ys) (suc i) x is = at-map f ys i x is
 
 module _ {B : Type 0} where
-  -- what holds of each holds of the one at a place
+  -- a fact of each element is one of the element at a place
   all-at : (P : B → Type 0) (xs : List B) (i : ℕ) (x : B) → All P xs → slice_get xs i ≡ Some x → P x
   all-at P [] i x all is = absurd cc
   all-at P (y ∷ ys) zero x all is =
@@ -55,7 +55,7 @@ module _ {B : Type 0} where
   all-at P (y ∷ ys) (suc i) x all is =
       all-at P ys i x (λ k d low. all (suc k) d (omega (arith, low))) is
 
--- what the lock tells as it closes
+-- the clauses of the lock when it closes
 pub record KnownAt (before : ℕ) (log : List Carried) (seal : Option (Seal Full)) (v : View Entry Full)
     : Type 0 where
   pub seen : StartsWith log v.seen
@@ -69,7 +69,7 @@ seal_is : (z : Seal Full) (n : ℕ) (f : Full) → z.by ≡ n → z.what ≡ f
     → z ≡ record { by = n; what = f }
 seal_is z n f p q k = record { by = p k; what = q k }
 
--- where the hub stopped, without whose call it was
+-- where the hub stopped, without the caller
 abbrev pub stop_of : Option (Seal Full) → Option Full
 stop_of seal = option_map (λ (z : Seal Full). z.what) seal
 

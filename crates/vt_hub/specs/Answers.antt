@@ -1,4 +1,4 @@
--- What a call of the hub answers, and what its pass knows then. This project's own.
+-- The answers to a call of the hub, and the knowledge of its pass then. This project's own.
 use Rattle.std.specs.Prelude.{◌≡◌, ℕ, true, false, List, [], ◌∷◌, ◌++◌, length, Some, None}
 use Rattle.turn_lock.specs.declared.seal.Seal.{Seal}
 use Rattle.vt_events.specs.Charge.{charge_of}
@@ -58,7 +58,7 @@ pub record Stopped (start : WorldState) (most : Limits) (e : Event) (v w : PassV
   pub seen : w.seen ≡ v.seen ++ later
   pub own : w.mine ≡ made_by w.number w.seen
   pub legal : IsLegal start w.seen
-  -- whose call found no room
+  -- the caller whose call found no room
   pub by : ℕ
   pub met : w.stop ≡ Some (record { by = by; what = full })
   -- a pass that has met it is answered the same again, and nothing was entered since
@@ -72,7 +72,7 @@ pub record Stopped (start : WorldState) (most : Limits) (e : Event) (v w : PassV
   -- what the pass had read of the history stands
   pub kept : BeginsWith w.seen v.read
 
--- what the call e of the pass v answers
+-- the answer to the call e of the pass v
 abbrev pub Answers : WorldState → Limits → Event → PassView → PassView → Answer → Type 0
 Answers start most e v w (answer.Done place reply) = Called start most e v w place reply
 Answers start most e v w (answer.Full full) = Stopped start most e v w full
@@ -90,7 +90,7 @@ pub record Waited (start : WorldState) (v w : PassView) : Type 0 where
   pub goes_on : w.stop ≡ None
   pub waits : awaits v.mine ≡ true
 
--- what one look of the pass v with the call e comes to
+-- the result of one look of the pass v with the call e
 abbrev pub Turns : WorldState → Limits → Event → PassView → PassView → Turn → Type 0
 Turns start most e v w (turn.Done place reply) = Called start most e v w place reply
 Turns start most e v w (turn.Full full) = Stopped start most e v w full

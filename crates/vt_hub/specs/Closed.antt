@@ -1,4 +1,4 @@
--- What a closed hub gives. This project's own.
+-- The result of closing a hub. This project's own.
 use Rattle.std.specs.Prelude.{◌≡◌, ◌<◌, ◌↔◌, ℕ, List, [], Option, Some, None, option_map, slice_get, false}
 use Rattle.std.specs.List.{All}
 use Rattle.turn_lock.specs.declared.seal.Seal.{Seal}
@@ -17,8 +17,8 @@ use Rattle.vt_world.specs.State.{WorldState, is_waiting}
 use Rattle.vt_world.specs.Tapes.{screen_of, tape_of}
 use Rattle.vt_world.specs.Terminals.{machine_of, terminal_at}
 
--- what a pass that was taken in knew is so: its entries are all of its number, and a stop that it met
--- is the one that stands, where it had seen everything
+-- the knowledge of a joined pass is true: its entries are all of its number, and a stop that it met is
+-- the one of the hub, at which it had seen everything
 pub record IsPart (start : WorldState) (history : List Entry) (stop : Option Full) (x : PassView) : Type 0 where
   pub seen : BeginsWith history x.seen
   pub mine : x.mine ≡ made_by x.number history
@@ -26,8 +26,8 @@ pub record IsPart (start : WorldState) (history : List Entry) (stop : Option Ful
   pub read : BeginsWith history x.read
   pub met : (z : Seal Full) → x.stop ≡ Some z → (stop ≡ Some z.what) × (x.seen ≡ history)
 
--- the hub stopped here: by the call of a pass that has met it and was taken in, whose caller has no
--- open ticket, and which found no room
+-- the hub stopped here: by the call of a pass that has met it and was joined, whose caller has no open
+-- ticket, and which found no room
 pub record IsStopped (most : Limits) (world : WorldState) (history : List Entry) (joined : List PassView) (full : Full) : Type 0 where
   pub place : ℕ
   pub pass : PassView
@@ -37,8 +37,8 @@ pub record IsStopped (most : Limits) (world : WorldState) (history : List Entry)
   pub numbers : full ≡ full_at history full.charge
   pub no_room : has_room most history full.charge ≡ false
 
--- what the steward s gets as the hub closes: the one history, with the world after it, and where it
--- stopped, if it did
+-- the result for the steward s when the hub closes: the one history, with the world after it, and where
+-- it stopped, if it did
 pub record IsWhole (start : WorldState) (most : Limits) (s : StewardView) (world : WorldState) (log : Logged) (stop : Option Full) : Type 0 where
   pub legal : IsLegal start log.entries
   pub replayed : world ≡ replay start log.entries
@@ -52,11 +52,11 @@ pub record IsWhole (start : WorldState) (most : Limits) (s : StewardView) (world
   -- a number of which no pass was made has no entry
   pub unmade : (n : ℕ) → stand_at s.stands n ≡ Unmade → made_by n log.entries ≡ []
   pub stops : (full : Full) → stop ≡ Some full → IsStopped most world log.entries s.joined full
-  -- it didn't stop exactly where no pass met a stop
+  -- it didn't stop exactly if no pass met a stop
   pub unstopped : (stop ≡ None) ↔ All (λ x. x.stop ≡ None) s.joined
-  -- the display law, where nothing waited for the display of the world that was opened
+  -- the display law, if nothing waited for the display of the world that was opened
   pub lawful : start.display.pending ≡ None → IsLawful (moments start log.entries)
-  -- the screen law, where the world that was opened was a start: the screen of each console, with the
+  -- the screen law, if the world that was opened was a start: the screen of each console, with the
   -- rest of its text, is its tape, run from the start screen
   pub screens : IsStart start → (c : ℕ) → c < 64
       → machine_of (terminal_at world.terminals c)

@@ -1,4 +1,4 @@
--- Histories of a shared console, and what is known of them. This project's own.
+-- Histories of a shared machine. This project's own.
 use Rattle.std.specs.Prelude.{◌≡◌, ℕ, ◌/◌, ◌%◌, ◌≤◌, ◌==◌, Bool, false, List, [], ◌∷◌, ◌++◌, filter, length, take, Some, slice_get}
 use Rattle.vt_events.specs.Waits.{is_wait}
 use Rattle.vt_events.specs.declared.entry.Entry.{Entry}
@@ -9,7 +9,7 @@ use Rattle.vt_world.specs.State.{WorldState, is_waiting}
 abbrev pub made_by : ℕ → List Entry → List Entry
 made_by n history = filter (λ entry. entry.caller == n) history
 
--- the last of these entries was answered "wait"; where there are none, it is as given
+-- the last of these entries was answered "wait"; if there are none, it is as given
 abbrev pub waits_by : Bool → List Entry → Bool
 waits_by known [] = known
 waits_by known (entry ∷ entries) = waits_by (is_wait entry.reply) entries
@@ -22,7 +22,7 @@ awaits entries = waits_by false entries
 abbrev pub BeginsWith : List Entry → List Entry → Type 0
 BeginsWith history seen = (later : List Entry) × (history ≡ seen ++ later)
 
--- no entry stands where its caller's ticket is open
+-- no entry was made while its caller's ticket was open
 abbrev pub IsFree : WorldState → List Entry → Type 0
 IsFree start entries =
     (k : ℕ) (entry : Entry) → slice_get entries k ≡ Some entry

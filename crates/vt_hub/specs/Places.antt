@@ -1,4 +1,4 @@
--- What a hub's passes know, by the passes of its lock. This project's own.
+-- The knowledge of a hub's passes, by the passes of its lock. This project's own.
 use Rattle.std.specs.Prelude.{◌≡◌, ℕ, List, map, length, count_by}
 use Rattle.turn_lock.specs.Views.{IsFirst, among, joined_of, made_of}
 use Rattle.turn_lock.specs.Words as lock
@@ -14,7 +14,7 @@ use Rattle.vt_hub.specs.Views.{PassView, StewardView, is_home, is_made, is_out, 
 use Rattle.vt_hub.specs.declared.pass_place.PassPlace.{PassPlace}
 use Rattle.vt_journal.specs.declared.full.Full.{Full}
 
--- what a pass of the lock knows, as that of the hub with this number
+-- the knowledge of a pass of the lock, as that of the hub's pass with this number
 abbrev pub known_by : TableId → ℕ → View Entry Full → PassView
 known_by hub number v = record {
   hub = hub;
@@ -26,7 +26,7 @@ known_by hub number v = record {
   stop = v.seal;
 }
 
--- what is kept of a pass that was taken in
+-- the knowledge of a joined pass
 abbrev pub joined_by : TableId → Joined Entry Full → PassView
 joined_by hub x = record {
   hub = hub;
@@ -38,7 +38,7 @@ joined_by hub x = record {
   stop = x.seal;
 }
 
--- what the first pass of the lock knows, as the steward of the hub
+-- the knowledge of the first pass of the lock, as that of the hub's steward
 abbrev pub kept_by : TableId → List PassPlace → View Entry Full → StewardView
 kept_by hub stands v = record {
   hub = hub;
@@ -62,7 +62,7 @@ module _ {K : Type 0} where
     pub named : (lock.view p).role ≡ Caller number
     pub counted : seq ≡ length (lock.view p).mine
 
-  -- the first pass rests; what it made and took in is as the stands say, and so many are out
+  -- the first pass rests; the stands show which passes it made and joined, and so many are out
   pub record Keeps (stands : List PassPlace) (out : ℕ) (p : Pass K Entry Full) : Type 0 where
     pub rests : lock.Rests p
     pub first : IsFirst (lock.view p).role

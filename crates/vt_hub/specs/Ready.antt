@@ -7,7 +7,7 @@ use Rattle.vt_hub.specs.Views.{PassView}
 use Rattle.vt_hub.specs.declared.answer.Answer.{Answer}
 use Rattle.vt_hub.specs.declared.answer.Answer.TheVariants as answer
 
--- a pass of this hub, whose last call was answered "wait" only where this is true, or which met a stop
+-- a pass of this hub, whose last call was answered "wait" only if this is true, or which met a stop
 pub record IsReady (here : TableId) (waits : Bool) (v : PassView) : Type 0 where
   pub own : v.hub ≡ here
   pub free : waits ≡ false → v.stop ≡ None → awaits v.mine ≡ false

@@ -1,4 +1,4 @@
--- What lies under the lock of a hub, and what a look at it comes to. This project's own.
+-- The value under the lock of a hub, and the result of a look at it. This project's own.
 use Rattle.std.specs.Prelude.{◌≡◌, ◌<◌, ◌≤◌, ℕ, true, false, List, [], ◌∷◌, ◌++◌, length, Option, Some, None}
 use Rattle.turn_lock.specs.declared.seal.Seal.{Seal}
 use Rattle.vt_events.specs.Charge.{charge_of}
@@ -24,7 +24,7 @@ pub record SharedView : Type 0 where
   pub log : Logged
   pub stop : Option (Seal Full)
 
--- what contracts see of the state under the lock
+-- the state under the lock, as contracts see it
 abbrev pub shared_view : State → SharedView
 shared_view s = record { world = s.world; log = s.log; stop = s.stop }
 
@@ -48,7 +48,7 @@ pub record IsSound (start : WorldState) (most : Limits) (v : SharedView) : Type 
   pub shown_high : v.world.display.front < 64
   -- the display law of every history from the world that was opened
   pub lawful : DisplaysAreLawfulFrom start
-  -- who has an open ticket was answered "wait" last
+  -- a caller with an open ticket was answered "wait" last
   pub tickets : (p : ℕ) → is_waiting v.world p ≡ true → awaits (made_by p v.log.entries) ≡ true
   pub stops : (z : Seal Full) → v.stop ≡ Some z → IsStop most v.world v.log.entries z
 
@@ -67,7 +67,7 @@ pub record Enters (p : ℕ) (seq : ℕ) (e : Event) (v w : SharedView) (place : 
   pub goes_on : w.stop ≡ None
   pub few : length v.log.entries ≤ 1_000_000
 
--- the call e of caller p found a stop, or no room, which is one
+-- the call e of caller p found a stop, or no room, which makes one
 pub record Stops (p : ℕ) (e : Event) (v w : SharedView) (full : Full) : Type 0 where
   pub log : w.log ≡ v.log
   pub world : w.world ≡ v.world
@@ -82,7 +82,7 @@ pub record Waits (p : ℕ) (v w : SharedView) : Type 0 where
   pub met : v.stop ≡ None
   pub waits : is_waiting v.world p ≡ true
 
--- what a look of caller p with the call e comes to
+-- the result of a look of caller p with the call e
 abbrev pub ComesTo : ℕ → ℕ → Event → SharedView → SharedView → Turn → Type 0
 ComesTo p seq e v w (turn.Done place reply) = Enters p seq e v w place reply
 ComesTo p seq e v w (turn.Full full) = Stops p e v w full

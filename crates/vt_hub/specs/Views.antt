@@ -1,4 +1,4 @@
--- What the passes of a hub know. This project's own.
+-- The knowledge of the passes of a hub. This project's own.
 use Rattle.std.specs.Prelude.{ℕ, Bool, true, false, List, [], Option, None, replicate, slice_index_or, slice_set}
 use Rattle.atomic_table.specs.Seated.{TableId}
 use Rattle.turn_lock.specs.declared.seal.Seal.{Seal}
@@ -22,7 +22,7 @@ pub record PassView : Type 0 where
 
 -- which hub it is of; where the pass of each number is; the history as far as the steward has seen
 -- it; the greatest word of it that was read, and the history of that word; and the passes that were
--- taken in, the newest first, as they were then
+-- joined, the newest first, as they were then
 pub record StewardView : Type 0 where
   pub hub : TableId
   pub stands : List PassPlace
@@ -40,12 +40,12 @@ abbrev pub is_made : PassPlace → Bool
 is_made Unmade = false
 is_made s = true
 
--- it was made, and wasn't taken in
+-- it was made, and wasn't joined
 abbrev pub is_out : PassPlace → Bool
 is_out Out = true
 is_out s = false
 
--- it was taken in
+-- it was joined
 abbrev pub is_home : PassPlace → Bool
 is_home Home = true
 is_home s = false
@@ -61,11 +61,11 @@ view_at_open start hub = record {
   joined = [];
 }
 
--- the steward, once it made a pass of number n
+-- the steward after it made a pass of number n
 abbrev pub with_pass : ℕ → StewardView → StewardView
 with_pass n s = record s { stands = slice_set s.stands n Out }
 
--- that pass: it has seen what the steward has, made nothing, and met no stop
+-- that pass: it has seen the steward's history, made nothing, and met no stop
 abbrev pub new_pass : ℕ → StewardView → PassView
 new_pass n s = record {
   hub = s.hub;

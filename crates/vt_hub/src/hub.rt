@@ -35,7 +35,7 @@ pub struct Hub<J: Opening> {
     lock: TurnLock<Shared<J>>,
     wake_ups: WakeUps,
     alloc: Global,
-    // Of the screens: it tells how much memory a call needs.
+    // The size of the screens, which determines the memory that a call needs.
     size: Size,
 }
 
@@ -138,7 +138,7 @@ impl<J: Opening> Hub<J> {
         requires own { p.old.hub ≡ self.now }
         requires call { ends_wait event ≡ false }
         requires fits { Fits J.start.rows J.start.cols event spare }
-        // Who was answered "wait" asks first how that ended, by `wait_end`.
+        // A caller that was answered "wait" makes `wait_end` first.
         requires free { p.old.stop ≡ None → awaits p.old.mine ≡ false }
         ensures { Answers J.start J.limits event p.old p.new result }
     {
@@ -219,7 +219,7 @@ impl<J: Opening> Hub<J> {
         ensures rest { p.new ≡ record p.old { known = p.new.known; read = p.new.read } }
         ensures later { p.old.known / 64 ≤ p.new.known / 64 }
         ensures greatest { p.old.known ≤ p.new.known }
-        // Every later history has that beginning with this display, also behind a later answer.
+        // Every later history has that prefix and this display after it, also after a later answer.
         ensures stands { (history : List Entry) → BeginsWith history p.new.read
             → IsRead J.start history p.new.known }
     {

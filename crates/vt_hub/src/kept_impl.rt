@@ -1,4 +1,4 @@
-//! What the lock knows of the value under it.
+//! The value under the lock, as the lock sees it.
 use crate::opening::Opening;
 use crate::shared::Shared;
 use turn_lock::Kept;

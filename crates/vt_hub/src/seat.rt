@@ -38,7 +38,7 @@ impl<J: Opening, R: Wait> Seat<'_, J, R> {
     #[tactic(auto, using(crate::proofs::Ready::ready_after, crate::proofs::Ready::end_tells))]
     pub fn ask(&self, pass: &mut Pass<J>, event: Event) -> Result<Answer, NoMemory>
         requires own { pass.old.hub ≡ self.now }
-        // Who was answered "wait" asks first how that ended.
+        // A caller that was answered "wait" makes WaitEnd first.
         requires free { ends_wait event ≡ false → pass.old.stop ≡ None → awaits pass.old.mine ≡ false }
         ensures ok { IfOk result (λ answer. Answers J.start J.limits event pass.old pass.new answer) }
         ensures ready { IfOk result (λ answer. IsReady self.now (is_told_to_wait answer) pass.new) }

@@ -20,7 +20,7 @@ use vt_world::{
     Spare, World, displays_are_lawful_from, legal_grows, sizes_stay, tickets_are_called,
 };
 
-/// What lies under the lock: the world after the entries of the log, and where the hub stopped.
+/// The value under the lock: the world after the entries of the log, and where the hub stopped.
 #[derive(Drop)]
 pub(crate) struct Shared<J: Opening> {
     // In a box, so that a turn moves one word.
@@ -64,7 +64,7 @@ impl<J: Opening> Shared<J> {
         })
     }
 
-    /// What it always keeps.
+    /// Its invariant.
     pub(crate) fn sound(&self)
         ensures { IsSound J.start J.limits self.now }
     {
@@ -79,7 +79,7 @@ impl<J: Opening> Shared<J> {
     }
 
     /// One look of a caller that has made `seq` calls: it enters its next call, unless the hub has
-    /// stopped, its ticket is open, or there is no room. Where there is none, the hub stops.
+    /// stopped, its ticket is open, or there is no room. If there is none, the hub stops.
     pub(crate) fn call(&mut self, caller: CallerNo, seq: u32, event: Event, spare: Spare) -> Turn
         requires fits { Fits J.start.rows J.start.cols event spare }
         requires number { seq ≡ length (made_by caller self.old.log.entries) }
@@ -140,7 +140,7 @@ impl<J: Opening> Shared<J> {
         Turn::Done { at, reply }
     }
 
-    /// Those whose tickets the last call ended.
+    /// The callers whose tickets the last call ended.
     pub(crate) fn ended(&self) -> Waiters {
         self.state.ended
     }

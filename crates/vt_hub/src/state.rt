@@ -9,7 +9,7 @@ pub(crate) struct State {
     pub(crate) world: World,
     pub(crate) log: Log,
     pub(crate) stop: Option<Seal<Full>>,
-    // Whose tickets are open after the last call, and whose it ended.
+    // The callers with open tickets after the last call, and those whose tickets it ended.
     pub(crate) waits: Waiters,
     pub(crate) ended: Waiters,
 }

@@ -1,7 +1,7 @@
 use vt_events::Reply;
 use vt_journal::Full;
 
-/// What one look of a caller comes to.
+/// The result of one look of a caller.
 #[derive(Drop)]
 pub(crate) enum Turn {
     /// Its call was entered at this place.

@@ -20,7 +20,7 @@ impl Waiters {
         self.bits & bit(caller) != 0
     }
 
-    /// Those that wait after a call of this caller, where these waited before it.
+    /// Those that wait after a call of this caller, if these waited before it.
     pub(crate) fn after(self, world: &World, caller: CallerNo) -> Waiters {
         let mut waits = Waiters::none();
         if world.waiting(caller) {

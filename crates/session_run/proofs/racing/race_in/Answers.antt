@@ -4,7 +4,6 @@ use Rattle.session_order.specs.Sessions.{start_of}
 use Rattle.session_run.proofs.HavePrograms.{callers_rise, hooked}
 use Rattle.session_run.proofs.Joins.{split_start}
 use Rattle.session_run.proofs.Races.{all_home, race_right}
-use Rattle.session_run.specs.Callers.{callers_in}
 use Rattle.session_run.specs.Racing.{AreHome}
 use Rattle.session_run.specs.Runs.{HasHooks}
 use Rattle.vt_hub.specs.Views.{view_at_open}
