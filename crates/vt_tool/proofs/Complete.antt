@@ -1,5 +1,4 @@
--- A run is complete: where a known command's input is there and no fault comes, the run has its
--- outcome.
+-- A run is complete: if a known command's input is offered and there is no fault, the run has its outcome.
 use Rattle.std.proofs.Common.{◌≡◌, ℕ, ◌⊎◌, inl, inr, List, ◌++◌, ◌<◌, ◌≤◌, length, Option, Some, None, sym, ap, ◌∙◌, subst, append-nil, arith, length-append, ⊎_elim}
 use Rattle.std.specs.Io.KnownBytes.{Appends, Consumes, IsAtEnd}
 use Rattle.vt_io.specs.Faults.{Rose}
@@ -51,7 +50,7 @@ not_past (InPieces limit) src src' input offered (taken, gave, past) =
     within_limit limit src src' input taken offered.0 offered.1 gave past
 not_past NoInput src src' input offered past = past
 
--- what was read to the end is what was offered
+-- the input that was read to the end is the one that was offered
 whole_input : (known input : List ℕ) (told told' : Option (List ℕ)) → told ≡ Some known
     → Consumes told told' input → IsAtEnd told' → input ≡ known
 whole_input known input None told' is gave end =
@@ -69,7 +68,7 @@ read_offered (InPieces limit) src src' known input offered read =
     whole_input known input src.bytes src'.bytes offered.0 read.0 read.1
 read_offered NoInput src src' known input offered read = read.1 ∙ sym offered
 
--- where err had no fault, the status is the first one
+-- if err had no fault, the status is the first one
 tells_first : (first : Status) (err err' : Stream) (status : Status)
     → ¬ Rose err.faults err'.faults → Tells first err err' status → status ≡ first
 tells_first first err err' status none tells =

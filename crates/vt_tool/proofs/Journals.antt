@@ -1,4 +1,4 @@
--- A run that printed a journal tells that its history keeps the display law.
+-- If a run printed a journal, its history keeps the display law.
 use Rattle.std.proofs.Common.{◌≡◌, ℕ, List, Some, ap, subst, ⊎_elim}
 use Rattle.std.specs.Io.KnownBytes.{Appends}
 use Rattle.session_order.specs.Sessions.{start_of}
@@ -129,7 +129,7 @@ module _ (cores : ActsMakeCores) (calls : ActsAreCalls) (tells : TracesTellActs)
         begun-shows TooLong whole begins = absurd whole
         begun-shows (Illegal index why) whole begins = absurd whole
 
-    -- a run that printed a journal tells its displays
+    -- if a run printed a journal, its history keeps the display law
     pub tells_displays : (known : List Form) (words : List (List ℕ)) (old new : Streams)
         (status : Status) → ProgramRun known words old new status
         → TellsDisplays known words old new status

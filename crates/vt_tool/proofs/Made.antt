@@ -1,4 +1,4 @@
--- What is made of what is answered on a journal.
+-- The outcomes of the reviews and explanations of a journal.
 use Rattle.std.proofs.Common.{◌≡◌, ◌≢◌, ℕ, List, [], ◌∷◌, ap, ◌∙◌}
 use Rattle.session_order.specs.Sessions.{setup_of, start_of}
 use Rattle.session_text.specs.Sessions.{SessionView}

@@ -28,7 +28,7 @@ use Rattle.vt_world.specs.State.{WorldState}
 same_outcome : (a b : Outcome) → a.status ≡ b.status → a.text ≡ b.text → a ≡ b
 same_outcome a b p q = λ i. record { status = p i; text = q i }
 
--- a history as it is meant, and where it stopped
+-- the plain form of a history, and its stop
 abbrev played : List Entry → Option Full → Played
 played history stop = record { history = plain_history history; stop = stop }
 
@@ -112,7 +112,7 @@ module _ (one_session : OneSession) (input : List ℕ)
         let yours = y.refused in
         cc
 
-    -- sessions that an input says begin alike
+    -- the sessions of one input begin alike
     pub same_setup : OneValue → (v w : SessionValue) (s t : SessionView) → session_says input (Ok v)
         → session_says input (Ok w) → IsSessionOf s v → IsSessionOf t w → setup_of s ≡ setup_of t
     same_setup one_value v w s t said said' is is' =

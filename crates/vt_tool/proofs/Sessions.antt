@@ -1,4 +1,4 @@
--- What is printed of a run of a session.
+-- The printed run of a session.
 use Rattle.std.proofs.Common.{◌≡◌, ℕ, List, Option, ap, ◌∙◌, subst}
 use Rattle.session_order.specs.Sessions.{IsRightHistory, start_of}
 use Rattle.session_run.specs.Final.{final_text}
@@ -12,7 +12,7 @@ use Rattle.vt_tool.specs.Outcome.{Outcome}
 use Rattle.vt_world.specs.History.{replay}
 use Rattle.vt_world.specs.State.{WorldState}
 
--- a right history with some console is one with the console of its replay
+-- a right history is right with the machine of its replay
 pub right_run : (s : SessionView) (world : WorldState) (history : List Entry) (end : Tail)
     → IsRightHistory s world history end → IsRightRun s history end
 right_run s world history end right = subst (λ w. IsRightHistory s w history end) right.world right

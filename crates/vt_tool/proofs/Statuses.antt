@@ -14,7 +14,7 @@ use Rattle.vt_tool.specs.declared.intake.Intake.TheVariants.{InPieces, NoInput, 
 use Rattle.vt_tool.specs.declared.status.Status.{Status}
 use Rattle.vt_tool.specs.declared.status.Status.TheVariants.{Usage, ReadFault, WriteFault, NoMemory, TooLong}
 
--- an answer that was written whole holds
+-- a whole answer meets the facts of its status
 answers_hold : (command : Command) (src src' out out' : Stream) (status : Status)
     → IsTrue (is_command_status status) → Answers command src src' out out' status
     → Holds command src src' out out' status
@@ -31,7 +31,7 @@ reads_some (ToEnd limit) src src' input read = (input, read.0)
 reads_some (InPieces limit) src src' input read = (input, read.0)
 reads_some NoInput src src' input read = read.0
 
--- what a command gives for the whole input makes a run of it
+-- a run that reads the whole input and writes the command's outcome meets the facts of its status
 pub given_holds : {E : Type 0} (command : Command) (src src' out out' : Stream) (input : List ℕ)
     (answer : Result Outcome E) (status : Status) → ReadsAll (intake_of command) src src' input
     → IfOk answer (Gives command input)

@@ -12,7 +12,7 @@ use Rattle.vt_tool.specs.Commands.Upgrade.{GivesUpgraded, IsNewer, IsNoJournal, 
 use Rattle.vt_tool.specs.Outcome.{Outcome, fine_text, no_text}
 use Rattle.vt_tool.specs.declared.status.Status.TheVariants as status
 
--- a first line, its digit told
+-- a first line, with its digit
 first_is : (version : ℕ) → version < 10
     → line_text (first_words version) ≡ codes "%journal " ++ (48 + version) ∷ 0x0A ∷ []
 first_is version few = ap (λ digits. codes "%journal " ++ (digits ++ 0x0A ∷ [])) (decimal_digit version few)

@@ -25,8 +25,8 @@ IsFitAsked other = ⊤
 
 -- the text after the session is the journal, with a certificate after it if the request is about one
 abbrev pub IsParted : JudgeRequest → List ℕ → List ℕ → List ℕ → Type 0
-IsParted Acceptance behind journal cert = IsCut mark.Certificate behind journal cert
-IsParted other behind journal cert = (journal ≡ behind) × (cert ≡ [])
+IsParted Acceptance after journal cert = IsCut mark.Certificate after journal cert
+IsParted other after journal cert = (journal ≡ after) × (cert ≡ [])
 
 -- the outcome for a journal and the text of a certificate
 abbrev pub MakesOf : JudgeRequest → List ℕ → SessionView → Journal → Outcome → Type 0
@@ -46,10 +46,10 @@ ComesOf asked cert s (Err fault) outcome =
     outcome ≡ no_text (status.Refused fault.kind fault.line (column_of fault.line))
 
 -- the outcome for the text after a session, whose journal is read first
-pub record IsReadAs (asked : JudgeRequest) (s : SessionView) (behind : List ℕ) (outcome : Outcome) : Type 0 where
+pub record IsReadAs (asked : JudgeRequest) (s : SessionView) (after : List ℕ) (outcome : Outcome) : Type 0 where
   pub journal : List ℕ
   pub cert : List ℕ
-  pub parted : IsParted asked behind journal cert
+  pub parted : IsParted asked after journal cert
   pub read : Result Journal JFault
   pub says : JournalSays journal read
   pub comes : ComesOf asked cert s read outcome
@@ -57,19 +57,19 @@ pub record IsReadAs (asked : JudgeRequest) (s : SessionView) (behind : List ℕ)
 -- the input has a session, and the text after it is read
 pub record GivesMade (asked : JudgeRequest) (input : List ℕ) (outcome : Outcome) : Type 0 where
   pub text : List ℕ
-  pub behind : List ℕ
-  pub cut : IsCut mark.Journal input text behind
+  pub after : List ℕ
+  pub cut : IsCut mark.Journal input text after
   pub value : SessionValue
   pub session : SessionView
   pub said : session_says text (Ok value)
   pub is : IsSessionOf session value
-  pub read : IsReadAs asked session behind outcome
+  pub read : IsReadAs asked session after outcome
 
 -- the session's text is refused at its first fault, with any text after it
 pub record GivesFaultBefore (input : List ℕ) (outcome : Outcome) : Type 0 where
   pub text : List ℕ
-  pub behind : List ℕ
-  pub cut : IsCut mark.Journal input text behind
+  pub after : List ℕ
+  pub cut : IsCut mark.Journal input text after
   pub refused : GivesSessionFault text outcome
 
 -- the outcome of the command with this request

@@ -8,7 +8,7 @@ returns-in-Ok c =
     ok_more _ _ c.answer_read.result
     (λ answer read. inl (record {
       text = c.cut-parts.result.text.now;
-      behind = c.cut-parts.result.after.now;
+      after = c.cut-parts.result.after.now;
       cut = c.cut-parts.ensures;
       value = value;
       session = c.in-Ok.session;
