@@ -21,5 +21,5 @@ pub run_printed : (s : SessionView) (world : WorldState) (history : List Entry) 
     → world ≡ replay (start_of s) history → (last : List ℕ) → last ≡ final_text world
     → (outcome : Outcome) → outcome ≡ run_outcome history (tail_at history stop) last
     → IsPrinted s history (tail_at history stop) outcome
-run_printed s world history stop replayed last final outcome is =
-    is ∙ ap (run_outcome history (tail_at history stop)) (final ∙ ap final_text replayed)
+run_printed s world history stop replayed last is_final outcome is =
+    is ∙ ap (run_outcome history (tail_at history stop)) (is_final ∙ ap final_text replayed)
