@@ -7,8 +7,9 @@ OUT is a folder that tools/build_c.sh filled (out/c in the clone). The programs 
 libtsm.c over the same engines/screen.h, compiled by cc -O3; an engine that isn't installed is left out. Each reads the
 first MiB of the ten kinds of text of inputs.py (`scroll` an eighth, `erase` and `lines` a sixteenth) at 25 by 80, and
 callgrind counts, less what an empty input takes. `single bytes` is libvt.c with a call for every byte; what that takes
-more than in long pieces is a call's own cost. Prints a table, and the greatest ratio to `vt screen`; the status is 1 if
-it is over RATIO, or if the rows of libvt aren't those of `vt screen`.
+more than in long pieces is a call's own cost. Prints a table, the greatest ratio to `vt screen`, and the
+instructions of `vt_keys_scan` for three keys (engines/keys.c); the status is 1 if that ratio is over RATIO, or if the
+rows of libvt aren't those of `vt screen`.
 """
 import argparse
 import os
@@ -22,6 +23,8 @@ from screens import instructions, table
 
 HERE = pathlib.Path(__file__).resolve().parent
 SIZE = ["screen", "25", "80"]
+KEYS = ["a", "Shift", "F1"]
+TYPED = 1000
 SINGLE = "single bytes"
 
 
@@ -30,6 +33,17 @@ def compiled(folder, name, source, *options):
     words = ["cc", "-O3", "-Wall", "-Wextra", "-o", folder / name, HERE / "engines" / f"{source}.c", *options]
     ran = subprocess.run(words, capture_output=True, text=True, check=False)
     return [str(folder / name), *SIZE] if ran.returncode == 0 else None
+
+
+def typed(folder, *options):
+    """The rows of a table: for each key, the instructions of a scan byte that goes down, and comes up."""
+    words = ["cc", "-O3", "-Wall", "-Wextra", "-o", folder / "keys", HERE / "engines/keys.c", *options]
+    subprocess.run(words, check=True)
+    rows = []
+    for key in KEYS:
+        more, less = (instructions([str(folder / "keys"), key, str(count)], os.devnull) for count in (TYPED, 0))
+        rows.append([f"`{key}`", f"{(more - less) / (2 * TYPED):,.0f}"])
+    return rows
 
 
 def rows_of(command, path):
@@ -69,8 +83,10 @@ def main():
             worst = max(worst, ratio)
             lines.append([f"`{kind}`", *(f"{count[name]:,.1f}" for name in programs), f"{ratio:.3f}"])
             print(f"{kind} done", file=sys.stderr)
+        keys = typed(folder, archive, include)
     print(table(["input", *programs, "libvt to vt screen"], lines))
-    print(f"\nthe greatest ratio to vt screen: {worst:.3f}")
+    print(f"\nthe greatest ratio to vt screen: {worst:.3f}\n")
+    print(table(["key", "instructions of a scan byte"], keys))
     return 1 if worst > given.most else 0
 
 

@@ -1,16 +1,18 @@
 #!/bin/sh
 # Builds the C library from a clone: the archive, the shared object, the header, the pkg-config file and the manual page.
 #
-# usage: tools/build_c.sh [--built] [OUT]
+# usage: tools/build_c.sh [--built | --gate] [OUT]
 #
 # OUT (out/c in the clone, if there is none) gets the folders of an installed library:
 #
 #     OUT/include/vt.h  OUT/lib/libvt.a  OUT/lib/libvt.so.1  OUT/lib/libvt.so  OUT/lib/pkgconfig/vt.pc  OUT/share/man/man3/vt.3
 #
 # It wants the Rattle toolchain (rt), a C compiler (CC, or cc), ld, ar and objcopy. `rt lib` proves the two crates of the
-# library and those below them, if they aren't proved yet. With --built the archives in crates/screen_c/out and
-# crates/keys_c/out are taken as they stand, and rt isn't called. A program that is linked with the library wants none of
-# these but a C compiler. Status 1: something is missing, which the last line names, or a step failed.
+# library and those below them, if they aren't proved yet. With --gate the crates below are taken as `rt ci` just left
+# them in this clone, and only the two crates are proved; `rt lib` doesn't take these, since they are without the proofs.
+# With --built the archives in crates/screen_c/out and crates/keys_c/out are taken as they stand, and rt isn't called. A
+# program that is linked with the library wants only a C compiler. Status 1: something is missing, which the last line
+# names, or a step failed.
 set -eu
 
 stop() {
@@ -18,10 +20,14 @@ stop() {
     exit 1
 }
 
-built=
-[ "${1-}" = --built ] && { built=1; shift; }
-case "${1-}" in -*) stop "usage: build_c.sh [--built] [OUT]";; esac
-[ $# -le 1 ] || stop "usage: build_c.sh [--built] [OUT]"
+usage='usage: build_c.sh [--built | --gate] [OUT]'
+built='' gate=''
+case "${1-}" in
+    --built) built=1; shift;;
+    --gate) gate=1; shift;;
+esac
+case "${1-}" in -*) stop "$usage";; esac
+[ $# -le 1 ] || stop "$usage"
 
 top=$(cd "$(dirname "$0")/.." && pwd)
 out=${1-$top/out/c}
@@ -42,10 +48,45 @@ work=$(mktemp -d)
 trap 'rm -rf "$work"' EXIT
 trap 'exit 1' HUP INT TERM
 
+# The libraries that a crate names in crates.txt.
+uses_of() {
+    sed -n "s/^$1 staticlib: //p" "$top/crates.txt"
+}
+
+# Whether the libraries below a crate are those that `rt ci` left: the ones of `rt check` and `rt lib` have a stamp.
+is_of_gate() {
+    for name in $(uses_of "$1"); do
+        [ ! -d "$top/crates/$name" ] ||
+            { [ -d "$top/crates/$name/out/rlib/$name.rlib" ] && [ ! -e "$top/crates/$name/out/rlib/stamp" ]; } || return 1
+    done
+}
+
+# Proves a crate over these libraries, and makes its archive.
+build_over_gate() {
+    crate=$1
+    kit=$(dirname "$(dirname "$(readlink -f "$(command -v rt)")")")
+    set -- --extern "std=$kit/rlibs/std.rlib" -L "dependency=$kit/rlibs"
+    for name in $(uses_of "$crate"); do
+        rlib=$top/crates/$name/out/rlib/$name.rlib
+        [ -d "$rlib" ] || rlib=$kit/rlibs/$name.rlib
+        set -- "$@" --extern "$name=$rlib"
+    done
+    for folder in "$top"/crates/*/out/rlib; do
+        set -- "$@" -L "dependency=$folder"
+    done
+    mkdir -p "$top/crates/$crate/out"
+    (cd "$top/crates/$crate" && "$kit/bin/rattle" build --crate-name "$crate" src/lib.rt "$@" --crate-type staticlib \
+        --links "$crate=" --antt-project "$kit/rattle/logic/antt-project.json" --logic-built "$kit/logic_built" \
+        --toolchain "$kit/toolchain" --backend llvm --jobs "$(nproc)" -o "out/lib$crate.a")
+}
+
 objects=
 for crate in screen_c keys_c; do
     archive=$top/crates/$crate/out/lib$crate.a
-    if [ -z "$built" ]; then
+    if [ -n "$gate" ] && is_of_gate "$crate"; then
+        build_over_gate "$crate" > "$work/log" 2>&1 ||
+            { tail -n 20 "$work/log" >&2; stop "crates/$crate isn't proved over what rt ci left"; }
+    elif [ -z "$built" ]; then
         echo "build_c.sh: rt lib in crates/$crate; the first proof of the crates below takes minutes" >&2
         (cd "$top/crates/$crate" && rt lib) > "$work/log" 2>&1 ||
             { tail -n 20 "$work/log" >&2; stop "rt lib failed in crates/$crate"; }

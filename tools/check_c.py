@@ -1,7 +1,7 @@
 #!/usr/bin/env python3
 """Builds the C library from this clone and checks it, its examples and its bindings.
 
-usage: check_c.py [--library OUT] [--vt PROGRAM] [--only CHECK,..] [--runs N]
+usage: check_c.py [--library OUT | --gate] [--vt PROGRAM] [--only CHECK,..] [--runs N]
 
 - `header`: vt.h is C11 and C++17; the library has the calls of vt.h and no other symbol; vt.py has its layout.
 - `codes`: each code of each call, plainly, with sanitizers, and under valgrind without a leak.
@@ -15,7 +15,8 @@ usage: check_c.py [--library OUT] [--vt PROGRAM] [--only CHECK,..] [--runs N]
 - `install`: tools/install.sh into a folder, and programs that are compiled by pkg-config there.
 - `guide`: the files and commands of docs/library/c.md, in an empty folder.
 
-OUT is a folder that tools/build_c.sh filled; without it the library is built first. The program is crates/vt/out/vt.
+OUT is a folder that tools/build_c.sh filled; without it the library is built first, with --gate over the crates that
+`rt ci` just left. The program is crates/vt/out/vt.
 If a tool isn't there, a line names the check that is skipped. Prints a line for each thing that isn't so and last 'N
 passed, M failed'; ends with status 1 if one fails, and with 2 if the library isn't built or a file is missing.
 """
@@ -206,12 +207,12 @@ CHECKS = {
 }
 
 
-def build():
-    """The folder of the library, built."""
+def build(options):
+    """The folder of the library, built with these options."""
     if not shutil.which("cc"):
         print("skipped: the C library: no C compiler (cc) is there")
         sys.exit(0)
-    ran = subprocess.run([TOP / "tools/build_c.sh"], capture_output=True, text=True, check=False)
+    ran = subprocess.run([TOP / "tools/build_c.sh", *options], capture_output=True, text=True, check=False)
     if ran.returncode:
         raise Stop(2, ran.stderr.strip())
     return TOP / "out/c"
@@ -220,6 +221,7 @@ def build():
 def main():
     words = argparse.ArgumentParser(description=__doc__.split("\n\n")[0])
     words.add_argument("--library", metavar="OUT", help="a folder that tools/build_c.sh filled")
+    words.add_argument("--gate", action="store_true", help="the library is built over the crates that rt ci just left")
     words.add_argument("--vt", default=TOP / "crates/vt/out/vt", metavar="PROGRAM", help="the program vt")
     words.add_argument("--only", default=",".join(CHECKS), metavar="CHECK,..", help=", ".join(CHECKS))
     words.add_argument("--runs", default="1000", metavar="N", help="how many random runs of keys")
@@ -232,7 +234,7 @@ def main():
         typed.RUNS = number(given.runs, 1, 100_000, "runs")
     except ValueError as fault:
         raise Stop(2, f"check_c.py: {fault}") from None
-    library = pathlib.Path(given.library or build()).absolute()
+    library = pathlib.Path(given.library or build(["--gate"] * given.gate)).absolute()
     for file in (library / "lib/libvt.a", library / "lib/libvt.so.1", pathlib.Path(given.vt)):
         if not file.exists():
             raise Stop(2, f"{file} isn't there")

@@ -263,6 +263,10 @@ def damaged(given, count):
         yield f"damaged {i}: {why}" if why else None
 
 
+def works(*command):
+    return bool(shutil.which(command[0])) and subprocess.run(command, capture_output=True).returncode == 0
+
+
 def guided(given):
     """The guide's commands print what it shows, in a folder with the files that it shows."""
     text = GUIDE.read_text(encoding="utf-8")
@@ -276,13 +280,18 @@ def guided(given):
             "picture": given.picture or ROOT / "crates/example_picture/out/example_picture",
             "record.py": TOOLS / "record.py",
         }
+        pythons = [it for it in (sys.executable, "/usr/bin/python3") if works(it, "-c", "import pyte")]
+        targets.update({"python3": it for it in pythons[:1]})
+        # (the programs for engines that aren't installed here)
+        left_out = () if pythons else ("less_pyte",)
+        left_out += () if works("gcc", "-E", "-x", "c", "-include", "vterm.h", os.devnull) else ("less_libvterm",)
         for name, target in targets.items():
             (at / name).symlink_to(pathlib.Path(target).resolve())
         (at / "expect.py").write_text(f'#!/bin/sh\nexec {TOOLS}/expect.py --vt {at}/vt "$@"\n', encoding="utf-8")
         (at / "expect.py").chmod(0o755)
         path = f"{folder}:{os.environ['PATH']}"
         for command, lines in check_pages.examples(text):
-            if "examples/" in command and given.vt:
+            if "examples/" in command and given.vt or any(name in command for name in left_out):
                 continue
             ran = subprocess.run(
                 ["bash", "-c", command], cwd=ROOT if "examples/" in command else at, env={**os.environ, "PATH": path},

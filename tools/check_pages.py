@@ -1,8 +1,8 @@
 #!/usr/bin/env python3
 """Checks that the examples of the pages print what the pages show.
 
-In README.md and the pages of docs/ each indented line `$ COMMAND` is run from the top of the repository, and the
-indented lines after it have to be what it prints; a line `..` stands for any lines. So is each line `$ COMMAND` of an
+In README.md, the pages of docs/ and those of examples/ each indented line `$ COMMAND` is run from the top of the
+repository, and the indented lines after it have to be what it prints; a line `..` stands for any lines. So is each line `$ COMMAND` of an
 example in man/, where `vt` is crates/vt/out/vt; the examples of a session and of a keymap there have to be accepted,
 and each command of vt(1) has an example. docs/codes.md has a row for each code of tools/why.py. The adapter of
 docs/guide/write-a-terminal.md answers a case. The lines of a journal that docs/guide/tour.md quotes have to stand in
@@ -130,7 +130,7 @@ def main():
     if not PROGRAM.exists():
         print(f"{PROGRAM.relative_to(TOP)} is missing: `rt run` in crates/vt builds it (README.md, \"Install\")")
         return 2
-    pages = [TOP / "README.md", *sorted((TOP / "docs").rglob("*.md"))]
+    pages = [TOP / "README.md", *sorted((TOP / "docs").rglob("*.md")), *sorted((TOP / "examples").glob("*/README.md"))]
     pages = [page for page in pages if page.name not in RUN_ELSEWHERE]
     manuals = sorted((TOP / "man").glob("*"))
     faults = [fault for page in pages for fault in page_faults(page)]

@@ -1,4 +1,4 @@
-"""The page docs/library/c.md as a stranger follows it: its files and commands in an empty folder."""
+"""The page docs/library/c.md as a stranger follows it: its files and commands in an empty folder; and vt.3's example."""
 import os
 import pathlib
 import re
@@ -11,6 +11,7 @@ sys.path.insert(0, str(TOP / "tools"))
 from check_pages import fits  # noqa: E402: after its folder
 
 PAGE = TOP / "docs/library/c.md"
+MANUAL = TOP / "man/vt.3"
 BUILD = "~/vt/tools/build_c.sh"
 FILE = re.compile(r"`([\w/.-]+\.(?:c|py|rs|toml))`")
 
@@ -45,8 +46,21 @@ def commands(block):
     return found
 
 
+def check_manual(bench):
+    """Compiles the example of the manual page, which prints the first row that `vt screen` prints of its text."""
+    block = re.search(r"^\.Bd -literal.*\n(#include(?:.*\n)*?)\.Ed$", MANUAL.read_text(encoding="utf-8"), re.M)[1]
+    source = bench.folder / "manual.c"
+    source.write_text(block.replace("\\e", "\\"), encoding="utf-8")
+    program = bench.compiled("manual", [source])
+    if program:
+        row = bench.run([bench.vt, "screen", "2", "5"], b"abcdefghijk").stdout.splitlines()[0].strip(b"|")
+        printed = bench.ends_well([program], "the example of vt.3").stdout
+        bench.holds(printed == row + b"\n", f"the example of vt.3 prints {row}, and not {printed}")
+
+
 def check_guide(bench):
     """Writes the files of the page and runs its commands; `~/vt` is this clone."""
+    check_manual(bench)
     if bench.library != TOP / "out/c":
         raise Missing("the library of the guide stands in out/c, and this one doesn't")
     home = bench.folder / "home"

@@ -4,11 +4,9 @@ ghost use Rattle.key_compile.specs.Faults.{at_line, fault_of, first_fault, is_ke
 ghost use Rattle.key_text.specs.FaultKinds.{LATE_KEYMAPS, WRONG_COUNT};
 
 use crate::usual::USUAL_PAIR_COUNT;
+use key_syms::PAIR_COUNT;
 use key_text::fault_kind::{LATE_KEYMAPS, TOO_MANY_PAIRS, WRONG_COUNT};
 use key_text::{KeyFault, Line, LineKind};
-
-// The most pairs.
-const PAIRS: usize = 256;
 
 /// The first fault of the lines, if there are n tables in the union.
 pub(crate) fn first_fault(lines: &[Line], n: usize) -> Option<KeyFault>
@@ -71,7 +69,7 @@ fn pairs_fault(count: usize) -> Option<u16>
     ensures value { result ≡ pairs_fault count }
     ensures few { IfNone result (count ≤ 256) }
 {
-    if count > PAIRS {
+    if count > PAIR_COUNT {
         Some(TOO_MANY_PAIRS)
     } else {
         None

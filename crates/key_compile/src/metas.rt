@@ -7,15 +7,12 @@ ghost use Rattle.key_compile.specs.Metas.{meta_at, meta_given, meta_of, metas_be
 ghost use Rattle.key_compile.specs.Puts.{Puts};
 
 use crate::fill::is_character_act;
-use key_syms::{Action, kind};
+use key_syms::{Action, KEYCODES, kind};
 use key_tables::KeyTables;
 use key_text::{Line, LineKind};
 
 // The number of tables without Alt below those with it.
 const PLAIN_TABLES: u8 = 8;
-
-// One past the greatest keycode.
-const KEYCODES: u16 = 256;
 
 /// Whether a line is `alt_is_meta`.
 pub(crate) fn has_alt_is_meta(lines: &[Line]) -> bool

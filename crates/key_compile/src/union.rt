@@ -3,11 +3,9 @@ ghost use Rattle.std.specs.Prelude.{◌≡◌, ℕ, ◌<◌, ◌||◌, false, le
 ghost use Rattle.std.specs.List.{list_any};
 ghost use Rattle.key_compile.specs.Union.{IsSetOf, in_union, is_declared, is_keymaps, is_usual_table, modifies_table, names_table, passing_below};
 
+use key_syms::TABLE_COUNT;
 use key_text::{Line, LineKind};
 use std::alloc::{AllocError, Global};
-
-// The number of tables that can exist.
-const TABLE_COUNT: usize = 256;
 
 /// For each table whether it is in the union.
 #[tactic(auto, unfolding(crate::specs::Union::in_union))]

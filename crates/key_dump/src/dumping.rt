@@ -11,13 +11,10 @@ use crate::entries::add_table;
 use crate::laws::dump_reads_back;
 use crate::numerals::{add, add_code_point, add_number};
 use crate::quoting::add_string;
-use key_syms::Pair;
+use key_syms::{Pair, STRING_COUNT, TABLE_COUNT};
 use key_tables::KeyTables;
 use std::alloc::Global;
 use vt_base::{Bytes, NoMemory};
-
-// The most tables, and the most function keys.
-const TABLE_COUNT: usize = 256;
 
 /// Whether tables can be written as a keymap text: at least one exists, and the pairs are of
 /// characters.
@@ -123,7 +120,7 @@ fn add_strings(alloc: Global, text: &mut Bytes, tables: &KeyTables) -> Result<()
         ≡ text.old.bytes ++ flat_map row_text (rows_from string_rows 0 tables.now.funcs)) }
 {
     tables.stays_whole();
-    for i in 0..TABLE_COUNT {
+    for i in 0..STRING_COUNT {
         add_string(alloc, text, i as u8, tables.func(i as u8))?;
     }
     Ok(())

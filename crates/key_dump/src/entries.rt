@@ -8,13 +8,10 @@ ghost use Rattle.key_dump.specs.Dump.{entry_rows, entry_words, modifier_words, r
 ghost use Rattle.key_dump.specs.Spaced.{blank_after_each};
 
 use crate::numerals::{add, add_number};
-use key_syms::{Action, kind, name_of};
+use key_syms::{Action, KEYCODES, kind, name_of};
 use key_tables::KeyTables;
 use std::alloc::Global;
 use vt_base::{Bytes, NoMemory};
-
-// One past the greatest keycode.
-const KEYCODES: u16 = 256;
 
 /// Adds the rows of a table, if it exists.
 pub(crate) fn add_table(

@@ -5,7 +5,7 @@ use Rattle.key_machine.proofs.Places.{apart, both_same}
 use Rattle.key_machine.proofs.Following.{fresh_down, keys_follow, recorded_action-with_key, recorded_action-without_key, recorded_action-without_keyboard, release_step_down}
 use Rattle.key_machine.specs.Histories.{AllComeUp, DownsAreLast, LocksStay, PressesRecord, ReleasesTake, Turn, keys_after, keys_by, last_says, looked_up, says}
 use Rattle.key_machine.specs.Keys.{Down, Keys, State, recorded_action, start_keys, weight_of, with_key}
-use Rattle.key_machine.specs.Step.{Step, action_step, key_step, acting_press_step, press_step, release_step, special}
+use Rattle.key_machine.specs.Step.{Step, action_step, acting_press_step, press_step, release_step, special}
 use Rattle.key_machine.specs.declared.key_modes.KeyModes.{KeyModes}
 use Rattle.key_syms.specs.Act.{Act}
 use Rattle.key_syms.specs.Kinds.{LOCK}

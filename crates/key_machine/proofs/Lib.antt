@@ -3,6 +3,6 @@ pub mod Downs
 pub mod Following
 pub mod Histories
 pub mod Medium
+pub mod Outs
 pub mod Places
-pub mod Strings
 pub mod Unplugging

@@ -7,4 +7,5 @@ pub mod Keys
 pub mod Laws
 pub mod Numbers
 pub mod Pads
+pub mod ShortOuts
 pub mod Step

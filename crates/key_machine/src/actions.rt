@@ -1,12 +1,14 @@
 //! Facts about actions, and their effects on a key state.
 ghost use Rattle.std.specs.Prelude.{◌≡◌, ◌≤◌, ◌^◌, [], ◌∷◌, if◌then◌else◌};
-ghost use Rattle.key_machine.specs.Bytes.{idle_bytes, out_of};
+ghost use Rattle.key_machine.specs.Bytes.{idle_bytes};
 ghost use Rattle.key_machine.specs.Keys.{is_on, table_of};
 ghost use Rattle.key_machine.specs.Numbers.{NUM};
+ghost use Rattle.key_machine.specs.ShortOuts.{out_with, short_of};
 ghost use Rattle.key_machine.specs.Step.{action_of, acts_in, changes_flag, flips, idle_out, keeps_sticky, repeats, after_sticky_use};
+ghost use Rattle.key_tables.specs.Tables.{Tables};
 
 use crate::bytes::{code_bytes, sent};
-use crate::{KbState, KeyBytes, KeyOut, flag, mode, special};
+use crate::{FewBytes, KbState, ShortOut, flag, mode, special};
 use key_syms::{Action, kind};
 use key_tables::KeyTables;
 
@@ -109,34 +111,35 @@ pub(crate) fn spend(a: Action, s: &mut KbState)
 }
 
 /// NumLock changes its flag, or sends PF1 of the pad.
-pub(crate) fn num_lock(s: &mut KbState, keypad: bool) -> KeyOut
+pub(crate) fn num_lock(s: &mut KbState, keypad: bool) -> ShortOut
     ensures state { s.new ≡ (if keypad then s.old else flips NUM s.old) }
-    ensures out { result ≡ (if keypad then out_of (0x1B ∷ 0x4F ∷ 0x50 ∷ []) else KeyOut.Nothing) }
+    ensures out { result ≡ (if keypad then short_of (0x1B ∷ 0x4F ∷ 0x50 ∷ []) else ShortOut.Nothing) }
 {
     if keypad {
-        return sent(KeyBytes::of(b"\x1BOP"));
+        return sent(FewBytes::of(b"\x1BOP"));
     }
     s.flags ^= flag::NUM;
-    KeyOut::Nothing
+    ShortOut::Nothing
 }
 
 /// The output of a key that doesn't act.
-pub(crate) fn send_idle(mode: u8, code: u8, down: bool) -> KeyOut
-    ensures { result ≡ out_of (idle_bytes mode code down) }
+pub(crate) fn send_idle(mode: u8, code: u8, down: bool) -> ShortOut
+    ensures { result ≡ short_of (idle_bytes mode code down) }
 {
     if mode == mode::MEDIUMRAW {
         sent(code_bytes(code, down))
     } else {
-        KeyOut::Nothing
+        ShortOut::Nothing
     }
 }
 
 /// The output of a press in a mode in which only SAK and the modifiers act.
-pub(crate) fn idle_out(mode: u8, code: u8, a: Action) -> KeyOut
-    ensures { result ≡ idle_out mode code a }
+#[tactic(auto, using(crate::proofs::Outs::outs))]
+pub(crate) fn idle_out(mode: u8, code: u8, a: Action) -> ShortOut
+    ensures { (tables : Tables) → out_with tables result ≡ idle_out mode code a }
 {
     if a.kind == kind::SPECIAL && a.value == special::SAK {
-        KeyOut::Attention
+        ShortOut::Attention
     } else {
         send_idle(mode, code, true)
     }

@@ -3,11 +3,8 @@ ghost use Rattle.key_machine.specs.Held.{left_to, modifier_of};
 ghost use Rattle.key_machine.specs.Keys.{recorded_action, weight_of, with_key, without_key, without_keyboard};
 ghost use Rattle.key_machine.specs.Step.{was_modifier};
 
-use key_syms::{Action, kind};
+use key_syms::{Action, KEYCODES, kind};
 use std::marker::Model;
-
-/// The keycodes of a keyboard, from 0 on.
-const KEYCODES: usize = 256;
 
 /// The keys that are down on all keyboards, each with the action of its press.
 #[derive(Debug, Drop)]

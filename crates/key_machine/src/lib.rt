@@ -18,6 +18,7 @@ mod laws;
 pub mod meta;
 pub mod mode;
 mod pad;
+mod short_out;
 mod special;
 mod waiting;
 
@@ -30,3 +31,4 @@ pub use laws::{
     keys_come_up, keys_follow, locks_stay, medium_bytes_tell, numbers_are_kept, presses_record,
     records_stay, unplug_takes,
 };
+pub use short_out::{FewBytes, ShortOut};

@@ -5,6 +5,7 @@ mod action;
 mod index;
 pub mod kind;
 mod laws;
+mod limits;
 mod name;
 mod numeral;
 mod pair;
@@ -14,6 +15,7 @@ mod table;
 
 pub use action::Action;
 pub use laws::{names_are_their_own, numbers_are_kept, tables_are_packed};
+pub use limits::{KEYCODES, PAIR_COUNT, STRING_BYTES, STRING_COUNT, TABLE_COUNT};
 pub use name::name_of;
 pub use numeral::number;
 pub use pair::Pair;

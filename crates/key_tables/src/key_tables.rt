@@ -5,13 +5,10 @@ ghost use Rattle.key_tables.specs.Tables.{IsEmpty, IsWhole, entry_of, exists_in,
 use crate::func_text::FuncText;
 use crate::listing;
 use crate::maps::Maps;
-use key_syms::{Action, Pair};
+use key_syms::{Action, PAIR_COUNT, Pair, STRING_COUNT};
 use std::alloc::Global;
 use std::marker::Model;
 use vt_base::{Bytes, NoMemory};
-
-// The most function keys, and the most pairs.
-const STRING_COUNT: usize = 256;
 
 /// The tables that exist with the action of each keycode, the strings of the function keys, and the
 /// pairs. All memory is taken when a value is made, and only for the tables that exist.
@@ -42,7 +39,7 @@ impl KeyTables {
         Ok(KeyTables {
             maps: Maps::holes(alloc, declared)?,
             funcs: empty_funcs(alloc)?,
-            pairs: Vec::with_capacity(alloc, STRING_COUNT)?,
+            pairs: Vec::with_capacity(alloc, PAIR_COUNT)?,
         })
     }
 
@@ -50,7 +47,7 @@ impl KeyTables {
     pub fn copy(&self, alloc: Global) -> Result<KeyTables, NoMemory>
         ensures { IfOk result (λ copy. copy ≡ self.now) }
     {
-        let mut pairs = Vec::with_capacity(alloc, STRING_COUNT)?;
+        let mut pairs = Vec::with_capacity(alloc, PAIR_COUNT)?;
         pairs.extend_from_slice(self.pairs.as_slice())?;
         Ok(KeyTables {
             maps: self.maps.copy(alloc)?,

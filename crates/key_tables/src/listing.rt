@@ -7,12 +7,9 @@ ghost use Rattle.key_tables.specs.Tables.{tables_of};
 use crate::func_text::FuncText;
 use crate::maps::Maps;
 use itoa::Buffer;
-use key_syms::{Action, Pair, kind};
+use key_syms::{Action, Pair, TABLE_COUNT, kind};
 use std::alloc::Global;
 use vt_base::{Bytes, NoMemory};
-
-// The number of tables that can exist.
-const TABLE_COUNT: u16 = 256;
 
 /// Adds the whole listing.
 #[tactic(auto, using(crate::proofs::Texts::four_more), unfolding(crate::specs::Listing::listing_of))]
@@ -40,7 +37,7 @@ fn add_maps(alloc: Global, text: &mut Bytes, maps: &Maps) -> Result<(), NoMemory
     ensures { OnOk result (text.new.bytes ≡ text.old.bytes ++ maps_text maps.now) }
 {
     add(alloc, text, b"maps")?;
-    for t in 0..TABLE_COUNT {
+    for t in 0..TABLE_COUNT as u16 {
         add_table(alloc, text, t, maps.exists(t as u8))?;
     }
     add(alloc, text, b"\n")
@@ -60,7 +57,7 @@ fn add_entries(alloc: Global, text: &mut Bytes, maps: &Maps) -> Result<(), NoMem
     requires { length maps.now ≡ 256 }
     ensures { OnOk result (text.new.bytes ≡ text.old.bytes ++ texts_from map_text 0 maps.now) }
 {
-    for t in 0..TABLE_COUNT {
+    for t in 0..TABLE_COUNT as u16 {
         add_map(alloc, text, t, maps.entries(t as u8))?;
     }
     Ok(())

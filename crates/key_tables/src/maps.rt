@@ -3,13 +3,10 @@ ghost use Rattle.std.specs.Option.{option_copied, option_map};
 ghost use Rattle.key_tables.specs.Tables.{AreHoles, AreMaps, hole};
 
 use crate::table::Table;
-use key_syms::Action;
+use key_syms::{Action, TABLE_COUNT};
 use std::alloc::Global;
 use std::marker::Model;
 use vt_base::NoMemory;
-
-// The number of tables that can exist.
-const TABLE_COUNT: usize = 256;
 
 /// The tables by number. Only those that are declared are kept, each at a place of its own.
 #[derive(Debug, Drop)]

@@ -1,13 +1,10 @@
 ghost use Rattle.std.specs.Prelude.{◌≡◌, ◌≢◌, replicate, slice_index_or, slice_set, IfOk};
 ghost use Rattle.key_tables.specs.Tables.{IsMap, hole};
 
-use key_syms::{Action, kind};
+use key_syms::{Action, KEYCODES, kind};
 use std::alloc::{AllocError, Global};
 use std::marker::Model;
 use vt_base::NoMemory;
-
-// The number of codes that a table has entries for.
-const KEYCODES: usize = 256;
 
 /// A table: the actions by code.
 #[derive(Debug, Drop)]

@@ -14,11 +14,8 @@ use crate::named::{named_action, named_number};
 use crate::placed::{Place, Placed};
 use crate::quoted::{character_of, text_of};
 use crate::words::{check_utf8, fault, is_quote, is_word, next, place_of_word, word_at};
-use key_syms::{Action, kind};
+use key_syms::{Action, STRING_BYTES, kind};
 use std::alloc::Global;
-
-// The most bytes of a string.
-const STRING_BYTES: usize = 255;
 
 /// The row ends: no word is left.
 #[tactic(auto, unfolding(crate::specs::Fields::end_of_line))]

@@ -1,4 +1,3 @@
-//! The statement of a row, by its first word.
 ghost use Rattle.key_text.specs.Fault.{Gives};
 ghost use Rattle.key_text.specs.Lines.{line_by, modified_by, said_from, weight_of};
 ghost use Rattle.key_text.specs.Sayings.{statement_view};

@@ -15,11 +15,8 @@ use crate::placed::{Place, Placed};
 use crate::statement::Statement;
 use crate::table_set::TableSet;
 use crate::words::{bytes, fault, next, place_of_word};
-use key_syms::number;
+use key_syms::{TABLE_COUNT, number};
 use std::alloc::{AllocError, Global};
-
-// The number of tables that can exist.
-const TABLE_COUNT: usize = 256;
 
 /// Tables from a first to a last one.
 #[derive(Clone, Copy)]

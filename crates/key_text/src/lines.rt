@@ -1,4 +1,3 @@
-//! The other lines of a keymap, a function for each first word.
 ghost use Rattle.std.specs.Prelude.{◌≡◌, IfOk};
 ghost use Rattle.std.specs.Result.{result_err};
 ghost use Rattle.key_text.specs.Fault.{Gives};

@@ -1,1 +1,2 @@
 mod HandleParts
+pub mod RawOuts

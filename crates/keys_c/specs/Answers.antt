@@ -1,9 +1,9 @@
--- What a call that changes a keyboard answers C, and what the handle has then.
+-- The code and the keyboard after a call that changes a keyboard.
 use Rattle.std.specs.Prelude.{◌≡◌, ℕ, Bool, cond, Option, Some, None}
 use Rattle.keys_c.specs.Codes.{NOTHING, OK, RANGE}
 use Rattle.keys_c.specs.KeyboardView.{KeyboardView}
 
--- the keyboard changes, where there is one and the numbers are in their ranges
+-- the keyboard changes if there is one and the numbers are in their ranges
 abbrev pub Changes : Option KeyboardView → Bool → (KeyboardView → KeyboardView) → ℕ → Option KeyboardView → Type 0
 Changes None in_range change code new = (code ≡ NOTHING) × (new ≡ None)
 Changes (Some k) in_range change code new =

@@ -1,7 +1,7 @@
 -- The codes that calls return to C, as include/vt.h names them.
 use Rattle.std.specs.Prelude.{ℕ}
 
--- VT_OK: the call did what it is for
+-- VT_OK: the call succeeded
 abbrev pub OK : ℕ
 OK = 0
 

@@ -1,10 +1,10 @@
--- What a scan byte says, as C finds it. The numbers of the kinds are those of include/vt.h.
+-- The result of a scan byte as C gets it. The numbers of the kinds are those of include/vt.h.
 use Rattle.std.specs.Prelude.{ℕ, ◌++◌, [], List, length, drop}
 use Rattle.key_machine.specs.declared.key_out.KeyOut.{KeyOut}
 use Rattle.key_machine.specs.declared.key_out.KeyOut.TheVariants.{Attention, Bytes, Last, Next, Nothing, Prev, Spawn, Switch}
 use Rattle.keys_c.specs.declared.vt_key.VtKey.{VtKey}
 
--- the bytes go before those that the room had
+-- the bytes stand in the first places; the other places stay unchanged
 abbrev pub key_with : ℕ → ℕ → List ℕ → VtKey → VtKey
 key_with kind number bytes old = record {
   kind = kind;

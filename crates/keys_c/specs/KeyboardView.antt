@@ -18,18 +18,18 @@ keyboard_of tables scanner keys state = record {
   state = state;
 }
 
--- no key was typed, and the key state is that of a start
+-- no key was typed, and the key state is the start state
 abbrev pub start_keyboard : Tables → KeyboardView
 start_keyboard tables = keyboard_of tables start_scan start_keys start_state
 
--- another key state
+-- the keyboard with another key state
 abbrev pub with_state : KeyboardView → State → KeyboardView
 with_state k s = record k { state = s }
 
--- no key is down
+-- keyboard 0, the one that a handle types on, is unplugged: its keys are released
 abbrev pub with_keys_up : KeyboardView → KeyboardView
 with_keys_up k = record k { keys = after_unplug 0 k.keys }
 
--- another string of a function key
+-- the keyboard with another string of a function key
 abbrev pub with_string : KeyboardView → ℕ → List ℕ → KeyboardView
 with_string k number text = record k { tables = with_func k.tables number text }

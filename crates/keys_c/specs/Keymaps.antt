@@ -14,17 +14,17 @@ use Rattle.keys_c.specs.KeyboardView.{KeyboardView, start_keyboard}
 use Rattle.keys_c.specs.declared.vt_fault.VtFault.{VtFault}
 use Rattle.keys_c.specs.declared.vt_text.VtText.{VtText}
 
--- the texts that C gives, after those that were given: of a name the first counts
+-- the texts that C gives, after those that are there; of two texts with the same name the first counts
 abbrev pub with_texts : List Named → List VtText → List Named
 with_texts named [] = named
 with_texts named (t ∷ texts) = with_texts (with_text t.name.now t.text.now named) texts
 
--- lines with the fault that they have together, if they have one
+-- the lines, or the fault that they have together
 abbrev pub lines_unless : List KeymapLine → Option KeyFault → Result (List KeymapLine) KeyFault
 lines_unless lines None = Ok lines
 lines_unless lines (Some f) = Err f
 
--- the lines of a keymap, or its first fault: of a row, or else of the lines together
+-- the lines of a keymap, or its first fault: that of a line, or else that of the lines together
 abbrev pub keymap_of : List VtText → List ℕ → Result (List KeymapLine) KeyFault
 keymap_of texts text =
     lines_of (with_texts [] texts) text >>= λ lines. lines_unless lines (compile_fault lines)
@@ -35,13 +35,13 @@ pub record AreTablesIn (texts : List VtText) (text : List ℕ) (tables : Tables)
   pub read : keymap_of texts text ≡ Ok lines
   pub compiled : AreTablesOf lines tables
 
--- what compiling returns: the tables, the first fault, or that memory ran out
+-- the result of compiling: the tables, the first fault, or no memory
 abbrev pub Compiles : List VtText → List ℕ → Result Tables KeyError → Type 0
 Compiles texts text (Ok tables) = AreTablesIn texts text tables
 Compiles texts text (Err (errors.Fault f)) = keymap_of texts text ≡ Err f
 Compiles texts text (Err errors.NoMemory) = Unit {0}
 
--- the fault that C finds
+-- the fault as C gets it
 abbrev pub fault_of : VtFault → KeyFault
 fault_of f = record { kind = f.kind; line = f.line; column = f.column }
 

@@ -1,9 +1,9 @@
--- The modes of a screen that C gives, as keys take them.
+-- The modes of a screen that C passes, as the key machine takes them.
 use Rattle.std.specs.Prelude.{ℕ, ◌==◌, Bool, not}
 use Rattle.key_machine.specs.declared.key_modes.KeyModes.{KeyModes}
 use Rattle.keys_c.specs.declared.vt_modes.VtModes.{VtModes}
 
--- C has numbers for modes: 0 is off
+-- a mode is a number in C: 0 is off
 abbrev pub is_set : ℕ → Bool
 is_set n = not (n == 0)
 

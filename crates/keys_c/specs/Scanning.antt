@@ -1,4 +1,4 @@
--- What a scan byte does to a keyboard, and what goes out.
+-- The effect of a scan byte on a keyboard, and its result.
 use Rattle.std.specs.Prelude.{ℕ, ◌==◌, [], ◌∷◌, Option, Some, None, if◌then◌else◌}
 use Rattle.key_machine.specs.Numbers.{RAW}
 use Rattle.key_machine.specs.Step.{key_step}
@@ -9,7 +9,7 @@ use Rattle.scan_codes.specs.Scan.{bytes_after, event_after}
 use Rattle.scan_codes.specs.declared.key_event.KeyEvent.{KeyEvent}
 use Rattle.keys_c.specs.KeyboardView.{KeyboardView}
 
--- a keyboard, and what a key of it says
+-- a keyboard, and the result of a scan byte
 pub record ScanStep : Type 0 where
   pub keyboard : KeyboardView
   pub out : KeyOut
@@ -33,7 +33,7 @@ abbrev pub byte_step : KeyModes → ℕ → KeyboardView → ScanStep
 byte_step modes b k =
     event_step modes (with_byte k b) (event_after k.scanner.codes k.scanner.bytes b)
 
--- in K_RAW a scan byte goes out itself (ioctl_console(2), KDSKBMODE), unless the attention key acts
+-- in K_RAW the scan byte itself is sent (ioctl_console(2), KDSKBMODE), unless the attention key acts
 abbrev pub raw_out : ℕ → KeyOut → KeyOut
 raw_out b key_out.Attention = key_out.Attention
 raw_out b out = key_out.Bytes (b ∷ [])

@@ -1,10 +1,10 @@
--- The string of a function key, vt_key_of over to C.
+-- The string of a function key as C gets it.
 use Rattle.std.specs.Prelude.{◌≡◌, ℕ, ◌++◌, Bool, true, false, List, Option, Some, None, drop, length, nat_le}
 use Rattle.key_tables.specs.Tables.{func_of}
 use Rattle.keys_c.specs.Codes.{NOTHING, NO_ROOM, OK, RANGE}
 use Rattle.keys_c.specs.KeyboardView.{KeyboardView}
 
--- what C gave and finds: the room for the text, and the length of the string
+-- the room for the text, and the length of the string, before or after a call
 pub record Room : Type 0 where
   pub text : List ℕ
   pub length : ℕ
@@ -12,7 +12,7 @@ pub record Room : Type 0 where
 abbrev pub room_of : List ℕ → ℕ → Room
 room_of text count = record { text = text; length = count }
 
--- a string is vt_key_of over where there is room for it, and its length in any case
+-- the string is written if there is room for it; its length is written in both cases
 abbrev pub HandsIf : Bool → List ℕ → ℕ → Room → Room → Type 0
 HandsIf true string code old new =
     (code ≡ OK) × (new ≡ room_of (string ++ drop (length string) old.text) (length string))

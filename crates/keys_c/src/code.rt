@@ -1,6 +1,6 @@
 //! The codes that calls return to C.
 
-/// The call did what it is for.
+/// The call succeeded.
 pub const OK: u8 = 0;
 
 /// The handle has a keyboard already.

@@ -7,8 +7,8 @@ use std::alloc::Global;
 use std::marker::Model;
 use std::mem;
 
-/// What C holds of a keyboard: null, or the pointer to a keyboard that it owns. For C it is a struct of one pointer.
-/// Contracts see what it owns, if anything, as `value`.
+/// A keyboard as C holds it: a struct of one pointer, which is null or points to a keyboard that the handle owns.
+/// In contracts `value` is that keyboard, or `None`.
 #[repr(C)]
 pub struct KeysHandle {
     at: *mut u8,
@@ -34,7 +34,7 @@ impl KeysHandle {
         }
     }
 
-    // A handle that owns what the box owned.
+    // A handle that owns the box's keyboard.
     fn of(raw: RawBox<KeymapKeyboard, Global>) -> KeysHandle
         ensures { result.value ≡ Some raw.value }
     {
@@ -45,7 +45,7 @@ impl KeysHandle {
         }
     }
 
-    // What the handle owns, as a box.
+    // Takes the handle apart: the keyboard that it owns, or `None`.
     fn open(self) -> Option<RawBox<KeymapKeyboard, Global>>
         ensures { MatchOption result (self.value ≡ None) (λ raw. self.value ≡ Some raw.value) }
     {
@@ -60,7 +60,7 @@ impl KeysHandle {
         }
     }
 
-    /// Takes out what the handle owns, if anything.
+    /// Takes the keyboard out of the handle, if it owns one.
     pub(crate) fn take(&mut self, alloc: Global) -> Option<Box<KeymapKeyboard>>
         ensures old { MatchOption result (self.old.value ≡ None) (λ owned. self.old.value ≡ Some owned.value) }
         ensures new { self.new.value ≡ None }
@@ -71,7 +71,7 @@ impl KeysHandle {
         }
     }
 
-    /// Makes the handle own this.
+    /// Gives the handle this keyboard.
     pub(crate) fn put(&mut self, owned: Box<KeymapKeyboard>)
         ensures { self.new.value ≡ Some owned.value }
     {

@@ -1,4 +1,4 @@
-//! A keymap text with texts that it may include, compiled.
+//! Compiles a keymap text with the texts that it may include.
 ghost use Rattle.std.specs.Prelude.{◌≡◌, [], OnOk};
 ghost use Rattle.keys_c.specs.Keymaps.{Compiles, with_texts};
 
@@ -19,7 +19,7 @@ pub(crate) fn tables_in(alloc: Global, text: &[u8], texts: &[VtText]) -> Result<
     compile(alloc, lines.as_slice())
 }
 
-// Adds the texts, of a name the first.
+// Adds the texts. Of two texts with the same name the first counts.
 fn add_texts(alloc: Global, texts: &[VtText], includes: &mut Includes) -> Result<(), NoMemory>
     ensures { OnOk result (includes.new ≡ with_texts includes.old texts.now) }
 {

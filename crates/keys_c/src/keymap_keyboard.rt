@@ -1,9 +1,10 @@
 ghost use Rattle.std.specs.Prelude.{◌≡◌, ◌≤◌, Some, length};
+ghost use Rattle.key_machine.specs.ShortOuts.{out_with};
 ghost use Rattle.key_tables.specs.Tables.{func_of};
 ghost use Rattle.keys_c.specs.KeyboardView.{start_keyboard, with_keys_up, with_state, with_string};
 ghost use Rattle.keys_c.specs.Scanning.{byte_step, event_step};
 
-use key_machine::{KbState, KeyModes, KeyOut, Keyboard};
+use key_machine::{KbState, KeyModes, Keyboard, ShortOut};
 use key_tables::KeyTables;
 use scan_codes::{KeyEvent, Scanner};
 use std::marker::Model;
@@ -26,7 +27,7 @@ impl Model for KeymapKeyboard {
 }
 
 impl KeymapKeyboard {
-    /// Nothing was typed yet.
+    /// A keyboard on which no key was typed.
     pub(crate) fn start(tables: KeyTables) -> KeymapKeyboard
         ensures { result ≡ start_keyboard tables }
     {
@@ -39,28 +40,30 @@ impl KeymapKeyboard {
     }
 
     /// Reads a scan byte, and types the key that it ends.
-    pub(crate) fn scan(&mut self, byte: u8, modes: KeyModes) -> KeyOut
+    pub(crate) fn scan(&mut self, byte: u8, modes: KeyModes) -> ShortOut
         ensures keyboard { self.new ≡ (byte_step modes byte self.old).keyboard }
-        ensures out { result ≡ (byte_step modes byte self.old).out }
+        ensures out { out_with self.new.tables result ≡ (byte_step modes byte self.old).out }
     {
         match self.scanner.push(byte) {
             Some(event) => self.type_key(event, modes),
-            None => KeyOut::Nothing,
+            None => ShortOut::Nothing,
         }
     }
 
-    // A key goes down, again where it repeats, or up.
-    fn type_key(&mut self, event: KeyEvent, modes: KeyModes) -> KeyOut
+    // Types one key event: a key goes down, repeats or goes up.
+    fn type_key(&mut self, event: KeyEvent, modes: KeyModes) -> ShortOut
         ensures keyboard { self.new ≡ (event_step modes self.old (Some event)).keyboard }
-        ensures out { result ≡ (event_step modes self.old (Some event)).out }
+        ensures out { out_with self.new.tables result ≡ (event_step modes self.old (Some event)).out }
     {
         let mut state = self.state;
-        let out = self.keyboard.key(0, event, &self.tables, &mut state, modes);
+        let out = self
+            .keyboard
+            .key_short(0, event, &self.tables, &mut state, modes);
         self.state = state;
         out
     }
 
-    /// No key is down any more.
+    /// Unplugs keyboard 0, the one that a handle types on: its keys are released and send nothing.
     pub(crate) fn release(&mut self)
         ensures { self.new ≡ with_keys_up self.old }
     {

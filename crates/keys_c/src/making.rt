@@ -1,4 +1,4 @@
-//! A keyboard made from a keymap text, and freed.
+//! Makes a keyboard from a keymap text, and frees it.
 ghost use Rattle.std.specs.Prelude.{◌≡◌, ◌≢◌, ◌↔◌, ◌⊎◌, Err, None, Some, IsSome, IsSomeAnd};
 ghost use Rattle.keys_c.specs.Codes.{FAULT, MADE, NO_MEMORY, OK};
 ghost use Rattle.keys_c.specs.KeyboardView.{start_keyboard};
@@ -14,8 +14,8 @@ use key_tables::KeyTables;
 use key_text::KeyError;
 use std::alloc::Global;
 
-/// Makes a keyboard from a keymap text, which may include the other texts. The first fault of the text
-/// goes where C finds it.
+/// Makes a keyboard from a keymap text, which may include the other texts. If the text has a fault, `fault` is the
+/// first one.
 #[unsafe(no_mangle)]
 pub extern "C" fn vt_keys_new(
     h: &mut KeysHandle,
@@ -40,7 +40,7 @@ pub extern "C" fn vt_keys_new(
     }
 }
 
-// Makes it where there is none.
+// Makes a keyboard for a handle without one.
 fn make(h: &mut KeysHandle, alloc: Global, text: &[u8], texts: &[VtText], fault: &mut VtFault) -> u8
     requires { h.old.value ≡ None }
     ensures codes { ((result ≡ OK) ⊎ (result ≡ FAULT)) ⊎ (result ≡ NO_MEMORY) }
@@ -59,7 +59,7 @@ fn make(h: &mut KeysHandle, alloc: Global, text: &[u8], texts: &[VtText], fault:
     }
 }
 
-// Gives the handle a keyboard by these tables, at its start.
+// Gives the handle a start keyboard with these tables.
 fn start(h: &mut KeysHandle, alloc: Global, tables: KeyTables) -> u8
     ensures codes { (result ≡ OK) ⊎ (result ≡ NO_MEMORY) }
     ensures made { result ≡ OK → h.new.value ≡ Some (start_keyboard tables) }
@@ -74,7 +74,7 @@ fn start(h: &mut KeysHandle, alloc: Global, tables: KeyTables) -> u8
     }
 }
 
-/// Frees what the handle has.
+/// Frees the handle's keyboard, if it has one.
 #[unsafe(no_mangle)]
 pub extern "C" fn vt_keys_free(h: &mut KeysHandle, alloc: Global)
     ensures { h.new.value ≡ None }

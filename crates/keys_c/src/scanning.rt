@@ -1,4 +1,4 @@
-//! Scan bytes typed, and all keys released.
+//! Types scan bytes, and releases all keys.
 ghost use Rattle.std.specs.Prelude.{◌≡◌, None, Some, true, MatchOption};
 ghost use Rattle.keys_c.specs.Answers.{Changes};
 ghost use Rattle.keys_c.specs.Codes.{NOTHING, OK};
@@ -13,7 +13,7 @@ use crate::vt_key::VtKey;
 use crate::vt_modes::VtModes;
 use std::alloc::Global;
 
-/// Types a scan byte, and puts what it says where C finds it.
+/// Types a scan byte, and writes the result to `out`.
 #[unsafe(no_mangle)]
 pub extern "C" fn vt_keys_scan(
     h: &mut KeysHandle,
@@ -33,12 +33,12 @@ pub extern "C" fn vt_keys_scan(
     };
     let mode = keyboard.state().mode;
     let said = keyboard.scan(byte, modes.modes());
+    out.hand_over(mode, byte, &said, &keyboard);
     h.put(keyboard);
-    out.hand_over(mode, byte, &said);
     code::OK
 }
 
-/// Releases all keys: none is down any more, and nothing goes out.
+/// Releases the keys as if the keyboard were unplugged. Nothing is sent.
 #[unsafe(no_mangle)]
 pub extern "C" fn vt_keys_release(h: &mut KeysHandle, alloc: Global) -> u8
     ensures { Changes h.old.value true with_keys_up result h.new.value }

@@ -1,4 +1,4 @@
-//! The key state, read and set.
+//! Reads and sets the key state.
 ghost use Rattle.std.specs.Prelude.{◌≡◌, ◌&&◌, None, Some, true, nat_le, MatchOption};
 ghost use Rattle.std.specs.Option.{option_map};
 ghost use Rattle.keys_c.specs.Answers.{Changes};
@@ -18,7 +18,7 @@ const ALL_FLAGS: u32 = 7;
 /// The greatest sum of weights of modifiers.
 const ALL_MODIFIERS: u32 = 255;
 
-/// Puts the key state where C finds it (ioctl_console(2), KDGKBMODE, KDGKBMETA, KDGKBLED, KDGETLED).
+/// Writes the key state to `state` (ioctl_console(2), KDGKBMODE, KDGKBMETA, KDGKBLED, KDGETLED).
 #[unsafe(no_mangle)]
 pub extern "C" fn vt_keys_state(h: &mut KeysHandle, alloc: Global, state: &mut VtKeyState) -> u8
     ensures same { Changes h.old.value true (λ k. k) result h.new.value }
@@ -131,7 +131,7 @@ fn lights_of(lights: u32) -> Option<u8>
     }
 }
 
-// The key state of what the handle has.
+// The key state of the handle's keyboard.
 fn key_state(h: &mut KeysHandle, alloc: Global) -> Option<KbState>
     ensures state { result ≡ option_map (λ k. k.state) h.old.value }
     ensures same { h.new.value ≡ h.old.value }
@@ -144,7 +144,7 @@ fn key_state(h: &mut KeysHandle, alloc: Global) -> Option<KbState>
     Some(state)
 }
 
-// Gives what the handle has another key state.
+// Sets the key state of the handle's keyboard.
 fn set_key_state(h: &mut KeysHandle, alloc: Global, state: KbState) -> u8
     ensures { Changes h.old.value true (λ k. with_state k state) result h.new.value }
 {

@@ -1,4 +1,4 @@
-//! The strings of function keys, read and set.
+//! Reads and sets the strings of function keys.
 ghost use Rattle.std.specs.Prelude.{◌≡◌, ◌≤◌, ◌&&◌, None, Some, true, length, nat_le, MatchOption};
 ghost use Rattle.keys_c.specs.Answers.{Changes};
 ghost use Rattle.keys_c.specs.Codes.{NOTHING, NO_ROOM, OK, RANGE};
@@ -15,7 +15,7 @@ const LAST_KEY: u32 = 255;
 /// The most bytes of a string.
 const MOST_BYTES: usize = 255;
 
-/// Puts the string of a function key where C finds it (ioctl_console(2), KDGKBSENT).
+/// Writes the string of a function key to `text`, and its length to `length` (ioctl_console(2), KDGKBSENT).
 #[unsafe(no_mangle)]
 pub extern "C" fn vt_keys_string(
     h: &mut KeysHandle,
@@ -63,7 +63,7 @@ pub extern "C" fn vt_keys_set_string(
     code::OK
 }
 
-// Puts a string before what the room has, where there is room for it, and its length.
+// Writes the length of a string, and the string itself if there is room for it.
 fn hand_over(string: &[u8], text: &mut [u8], length: &mut usize) -> u8
     ensures { Hands string.now result (room_of text.old length.old) (room_of text.new length.new) }
 {

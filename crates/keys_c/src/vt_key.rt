@@ -1,10 +1,13 @@
 ghost use Rattle.std.specs.Prelude.{◌≡◌, ◌≤◌, [], length};
+ghost use Rattle.key_machine.specs.Bytes.{out_of};
+ghost use Rattle.key_machine.specs.ShortOuts.{out_with};
 ghost use Rattle.keys_c.specs.KeyOuts.{key_with, vt_key_of};
 ghost use Rattle.keys_c.specs.Scanning.{out_in_mode};
 
-use key_machine::{KeyOut, mode};
+use crate::keymap_keyboard::KeymapKeyboard;
+use key_machine::{ShortOut, mode};
 
-/// Where C finds what a scan byte comes to.
+/// The result of a scan byte.
 #[repr(C)]
 #[derive(Drop)]
 pub struct VtKey {
@@ -15,35 +18,48 @@ pub struct VtKey {
     pub number: u8,
     /// How many bytes there are.
     pub length: u16,
-    /// The bytes; what is after them stays.
+    /// The bytes. The places after them stay unchanged.
     pub bytes: [u8; 512],
 }
 
 impl VtKey {
-    /// Puts what a key says where C finds it; in K_RAW that is the byte itself, unless the attention key
-    /// acts.
-    pub(crate) fn hand_over(&mut self, mode: u8, byte: u8, out: &KeyOut)
-        ensures { self.new ≡ vt_key_of (out_in_mode mode byte out.now) self.old }
+    /// Writes the result of a scan byte. In K_RAW that is the byte itself, unless the attention key acts.
+    #[tactic(auto, using(crate::proofs::RawOuts::raw_outs))]
+    pub(crate) fn hand_over(&mut self, mode: u8, byte: u8, out: &ShortOut, from: &KeymapKeyboard)
+        ensures { self.new ≡ vt_key_of (out_in_mode mode byte (out_with from.now.tables out.now)) self.old }
     {
-        if mode != mode::RAW || matches!(out, KeyOut::Attention) {
-            self.put_out(out);
+        if mode != mode::RAW || matches!(out, ShortOut::Attention) {
+            self.put_out(out, from);
         } else {
             self.put(1, 0, &[byte]);
         }
     }
 
-    fn put_out(&mut self, out: &KeyOut)
-        ensures { self.new ≡ vt_key_of out.now self.old }
+    // Writes the result of a key event. The string of a function key is that of `from`.
+    fn put_out(&mut self, out: &ShortOut, from: &KeymapKeyboard)
+        ensures { self.new ≡ vt_key_of (out_with from.now.tables out.now) self.old }
     {
         match out {
-            KeyOut::Nothing => self.put(0, 0, &[]),
-            KeyOut::Bytes(bytes) => self.put(1, 0, bytes.as_slice()),
-            KeyOut::Switch(n) => self.put(2, *n, &[]),
-            KeyOut::Last => self.put(3, 0, &[]),
-            KeyOut::Next => self.put(4, 0, &[]),
-            KeyOut::Prev => self.put(5, 0, &[]),
-            KeyOut::Spawn => self.put(6, 0, &[]),
-            KeyOut::Attention => self.put(7, 0, &[]),
+            ShortOut::Nothing => self.put(0, 0, &[]),
+            ShortOut::Bytes(bytes) => self.put(1, 0, bytes.as_slice()),
+            ShortOut::Function(number) => self.put_string(from.string(*number)),
+            ShortOut::Switch(n) => self.put(2, *n, &[]),
+            ShortOut::Last => self.put(3, 0, &[]),
+            ShortOut::Next => self.put(4, 0, &[]),
+            ShortOut::Prev => self.put(5, 0, &[]),
+            ShortOut::Spawn => self.put(6, 0, &[]),
+            ShortOut::Attention => self.put(7, 0, &[]),
+        }
+    }
+
+    fn put_string(&mut self, text: &[u8])
+        requires { length text.now ≤ 255 }
+        ensures { self.new ≡ vt_key_of (out_of text.now) self.old }
+    {
+        if text.is_empty() {
+            self.put(0, 0, &[]);
+        } else {
+            self.put(1, 0, text);
         }
     }
 

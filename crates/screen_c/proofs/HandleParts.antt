@@ -60,7 +60,9 @@ module _ {M : Type 1} {𝓤 : Ura M} {𝓛 : Logic 𝓤} {K : Type 0} {Γ : List
       handle_tells allocator t d.alloc parts.1.0 (λ h alone good. move t (1 ∷ []) $ drop t $ move t (1 ∷ []) $
       let with_pointer : vs ≡ vstruct (of_list (ptr_val d.at ∷ (parts.1.0 ++ []))) ∷ [] =
       subst (λ (ps : List Val). vs ≡ vstruct (of_list (ps ++ (parts.1.0 ++ []))) ∷ []) pointer whole in
-      next h (subst (λ (hs : List Val). vs ≡ vstruct (of_list (ptr_val d.at ∷ (hs ++ []))) ∷ []) alone with_pointer) good))))
+      next h
+      (subst (λ (hs : List Val). vs ≡ vstruct (of_list (ptr_val d.at ∷ (hs ++ []))) ∷ []) alone with_pointer)
+      good))))
 
   -- put together: from [what it holds; its allocator]
   pub together : K → (p : Ptr) (h : Val) (a : Global) (x : Option Owned.Denot)

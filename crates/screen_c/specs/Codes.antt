@@ -1,4 +1,4 @@
--- Numbers from C that a call refuses.
+-- The sizes that a call accepts.
 use Rattle.std.specs.Prelude.{ℕ, ◌≤◌}
 
 -- a screen has 1 to 255 rows and columns

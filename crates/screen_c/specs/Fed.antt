@@ -1,4 +1,4 @@
--- What a feed does.
+-- The effect of a feed.
 use Rattle.std.specs.Prelude.{◌≡◌, ℕ, ◌<◌, ◌≤◌, ◌++◌, List, length, map, take, drop}
 use Rattle.screen_c.specs.Shown.{c_out}
 use Rattle.screen_c.specs.declared.vt_fed.VtFed.{VtFed}
@@ -7,8 +7,8 @@ use Rattle.vt_screen.specs.Run.{after, outs_of_run}
 use Rattle.vt_screen.specs.Screen.{Screen}
 use Rattle.vt_units.specs.Run.{Reached}
 
--- so many bytes were run, what they say stands in the first places in order, and the other places stay. Bytes are left
--- only if no place is
+-- the first `taken` bytes were run, their outs stand in the first places in order, and the other places stay unchanged.
+-- Bytes are left only if all places are full
 pub record IsFed (m : Reached Screen) (bytes : List ℕ) (old new : List VtOut) (fed : VtFed) (end : Reached Screen)
     : Type 0 where
   pub within : fed.taken ≤ length bytes

@@ -1,4 +1,4 @@
--- What a handle has, and what calls make of it.
+-- The value that a handle owns, and the values that calls make of it.
 use Rattle.std.specs.Prelude.{◌≡◌, ℕ, Bool, true, nat_eq, ◌&&◌, not, List, map, Option, Some, None}
 use Rattle.std.specs.List.{range_with_len}
 use Rattle.vt_grid.specs.Grid.{GridView, row_at}
@@ -6,16 +6,16 @@ use Rattle.vt_screen.specs.Run.{start}
 use Rattle.vt_screen.specs.Screen.{Screen}
 use Rattle.vt_units.specs.Run.{Reached}
 
--- the screen with the rest of its text, and the marked cells, if any
+-- the screen with its pending text, and the marked cells, if any
 pub record OwnedScreenView : Type 0 where
   pub machine : Reached Screen
   pub mark : Option GridView
 
--- the same mark, and this screen
+-- this screen with the same mark
 abbrev pub with_machine : Reached Screen → OwnedScreenView → OwnedScreenView
 with_machine m o = record o { machine = m }
 
--- the start screen of so many rows and columns, and no mark
+-- the start screen of this many rows and columns, without a mark
 abbrev pub new_screen : ℕ → ℕ → OwnedScreenView
 new_screen rows cols = record { machine = start rows cols; mark = None }
 

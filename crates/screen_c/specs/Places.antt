@@ -1,4 +1,4 @@
--- Places that a call writes.
+-- The places that a call writes.
 use Rattle.std.specs.Prelude.{List, ◌++◌, length, take, drop}
 
 -- the items stand in the first places, as many as there is room for; the other places stay

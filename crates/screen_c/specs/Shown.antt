@@ -1,4 +1,4 @@
--- What C sees of a cell, a colour, the state and what a text asks for.
+-- A cell, a colour, the state and an out as C gets them.
 use Rattle.std.specs.Prelude.{ℕ, ◌-◌, Bool, true, false, List, [], ◌++◌, length, replicate}
 use Rattle.screen_c.specs.declared.vt_cell.VtCell.{VtCell}
 use Rattle.screen_c.specs.declared.vt_colour.VtColour.{VtColour}

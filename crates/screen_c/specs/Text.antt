@@ -1,21 +1,21 @@
--- How a call hands over a text.
+-- The results of a call that writes a text.
 use Rattle.std.specs.Prelude.{◌≡◌, ◌⊎◌, ℕ, ◌<◌, ◌≤◌, ◌++◌, List, length, drop}
 
--- fine: the text stands in the first places of the room, the other places stay, and its length is given
+-- OK: the text stands in the first places of the room, the other places stay unchanged, and its length is written
 pub record IsWhole (text old new : List ℕ) (count code : ℕ) : Type 0 where
   pub fine : code ≡ 0
   pub size : count ≡ length text
   pub room : length text ≤ length old
   pub places : new ≡ text ++ drop (length text) old
 
--- no room: only its length is given
+-- no room: only its length is written
 pub record LacksRoom (text old new : List ℕ) (count code : ℕ) : Type 0 where
   pub refused : code ≡ 5
   pub size : count ≡ length text
   pub room : length old < length text
   pub places : new ≡ old
 
--- no memory: nothing is given
+-- no memory: nothing is written
 pub record LacksMemory (old new : List ℕ) (old_count count code : ℕ) : Type 0 where
   pub refused : code ≡ 3
   pub size : count ≡ old_count

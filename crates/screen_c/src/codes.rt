@@ -1,6 +1,6 @@
-//! What a call returns, as `enum vt_code` of `include/vt.h` has it.
+//! The codes that calls return to C: `enum vt_code` of `include/vt.h`.
 
-/// The call did what it does.
+/// The call succeeded.
 pub const OK: u8 = 0;
 
 /// The handle has a screen already.
@@ -18,5 +18,5 @@ pub const NOTHING: u8 = 4;
 /// The room is too small, and only the length was written.
 pub const NO_ROOM: u8 = 5;
 
-/// No text draws the screen. (6 is a keymap's fault.)
+/// No text draws the screen. (6 is the fault of a keymap.)
 pub const NOT_DRAWABLE: u8 = 7;

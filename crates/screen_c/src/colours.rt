@@ -60,7 +60,7 @@ pub extern "C" fn vt_screen_palette(
     }
 }
 
-// Puts the colours into the places from the first.
+// Writes the colours into the first places.
 fn put_colours(rgbs: &[(u8, u8, u8)], places: &mut [VtColour])
     ensures { places.new ≡ with_items (map c_colour rgbs.now) places.old }
 {

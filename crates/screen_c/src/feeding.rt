@@ -1,4 +1,4 @@
-//! Text is run on a screen.
+//! Runs text on a screen.
 ghost use Rattle.std.specs.Prelude.{◌≡◌, ◌<◌, ◌≤◌, ◌+◌, ◌++◌, drop, length, map, take, IfNone, IfSome, None, Some};
 ghost use Rattle.screen_c.specs.Fed.{IsFed};
 ghost use Rattle.screen_c.specs.Held.{with_machine};
@@ -12,7 +12,7 @@ use crate::{OwnedScreen, ScreenHandle, VtFed, VtOut};
 use std::alloc::Global;
 use vt_screen::{Emu, Outs, any_cut};
 
-/// Runs a text until it is at its end or no place is left for what it asks for.
+/// Runs a text up to its end, or until `outs` is full, and writes its reports, bells and requests to `outs`.
 #[unsafe(no_mangle)]
 pub extern "C" fn vt_screen_feed(
     handle: &mut ScreenHandle,
@@ -43,7 +43,7 @@ pub extern "C" fn vt_screen_feed(
     }
 }
 
-/// Runs a whole text, and drops what it asks for.
+/// Runs a whole text, and drops its reports, bells and requests.
 #[unsafe(no_mangle)]
 pub extern "C" fn vt_screen_write(handle: &mut ScreenHandle, bytes: &[u8], alloc: Global) -> u8
     ensures nothing { IfNone handle.old.value ((result ≡ NOTHING) × (handle.new.value ≡ None)) }
@@ -66,7 +66,7 @@ pub extern "C" fn vt_screen_write(handle: &mut ScreenHandle, bytes: &[u8], alloc
     }
 }
 
-// Runs a text until it is at its end or no place is left for what it says. `said` is room for one thing.
+// Runs a text up to its end, or until the places are full. `said` is room for one out.
 fn feed(emu: &mut Emu, b: &[u8], said: &mut Outs, places: &mut [VtOut]) -> VtFed
     ensures { IsFed emu.old b.now places.old places.new result emu.new }
 {
@@ -80,7 +80,7 @@ fn feed(emu: &mut Emu, b: &[u8], said: &mut Outs, places: &mut [VtOut]) -> VtFed
     VtFed { taken: at, said: n }
 }
 
-// Puts what was said, at most one thing, into a place, and gives how many places that is.
+// Writes at most one out into a place, and returns the number of places written.
 fn put_said(said: &Outs, places: &mut [VtOut], n: usize) -> usize
     requires one { length said.now ≤ 1 }
     requires room { n < length places.old }
@@ -96,7 +96,7 @@ fn put_said(said: &Outs, places: &mut [VtOut], n: usize) -> usize
     1
 }
 
-// Runs a text, and drops what it says. `said` is room for one thing.
+// Runs a text, and drops its outs. `said` is room for one out.
 fn write(emu: &mut Emu, b: &[u8], said: &mut Outs)
     ensures { emu.new ≡ after emu.old b.now }
 {

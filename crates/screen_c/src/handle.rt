@@ -7,8 +7,8 @@ use std::alloc::Global;
 use std::marker::Model;
 use std::mem;
 
-/// What C holds of a screen: null, or the pointer to a screen that it owns. For C it is a struct of one pointer.
-/// Contracts see what it owns, if anything, as `value`.
+/// A screen as C holds it: a struct of one pointer, which is null or points to a screen that the handle owns.
+/// In contracts `value` is that screen, or `None`.
 #[repr(C)]
 pub struct ScreenHandle {
     at: *mut u8,
@@ -34,7 +34,7 @@ impl ScreenHandle {
         }
     }
 
-    // A handle that owns what the box owned.
+    // A handle that owns the box's screen.
     fn of(raw: RawBox<OwnedScreen, Global>) -> ScreenHandle
         ensures { result.value ≡ Some raw.value }
     {
@@ -45,7 +45,7 @@ impl ScreenHandle {
         }
     }
 
-    // What the handle owns, as a box.
+    // Takes the handle apart: the screen that it owns, or `None`.
     fn open(self) -> Option<RawBox<OwnedScreen, Global>>
         ensures { MatchOption result (self.value ≡ None) (λ raw. self.value ≡ Some raw.value) }
     {
@@ -60,7 +60,7 @@ impl ScreenHandle {
         }
     }
 
-    /// Takes out what the handle owns, if anything.
+    /// Takes the screen out of the handle, if it owns one.
     pub(crate) fn take(&mut self, alloc: Global) -> Option<Box<OwnedScreen>>
         ensures old { MatchOption result (self.old.value ≡ None) (λ owned. self.old.value ≡ Some owned.value) }
         ensures new { self.new.value ≡ None }
@@ -71,7 +71,7 @@ impl ScreenHandle {
         }
     }
 
-    /// Makes the handle own this.
+    /// Gives the handle this screen.
     pub(crate) fn put(&mut self, owned: Box<OwnedScreen>)
         ensures { self.new.value ≡ Some owned.value }
     {

@@ -1,4 +1,4 @@
-//! A screen is made, freed, and given another size.
+//! Makes, frees and resizes a screen.
 ghost use Rattle.std.specs.Prelude.{◌≡◌, ◌⊎◌, IfNone, IfOk, IfSome, None, Some};
 ghost use Rattle.screen_c.specs.Codes.{IsSize};
 ghost use Rattle.screen_c.specs.Held.{new_screen, with_machine};
@@ -11,7 +11,7 @@ use vt_base::{NoMemory, Size};
 use vt_grid::Grid;
 use vt_screen::{BLANK, Emu, Outs};
 
-/// Makes a start screen of so many rows and columns.
+/// Makes a start screen of this many rows and columns, 1 to 255 each.
 #[unsafe(no_mangle)]
 pub extern "C" fn vt_screen_new(
     handle: &mut ScreenHandle,
@@ -43,7 +43,7 @@ pub extern "C" fn vt_screen_new(
     }
 }
 
-/// Frees what the handle has, if anything.
+/// Frees the handle's screen, if it has one.
 #[unsafe(no_mangle)]
 pub extern "C" fn vt_screen_free(handle: &mut ScreenHandle, alloc: Global)
     ensures { handle.new.value ≡ None }
@@ -51,7 +51,7 @@ pub extern "C" fn vt_screen_free(handle: &mut ScreenHandle, alloc: Global)
     let _ = handle.take(alloc);
 }
 
-/// Gives the screen so many rows and columns. The text that is pending stays, and so does the mark.
+/// Gives the screen this many rows and columns, 1 to 255 each. The pending text and the mark stay.
 #[unsafe(no_mangle)]
 pub extern "C" fn vt_screen_resize(
     handle: &mut ScreenHandle,
@@ -114,7 +114,7 @@ impl OwnedScreen {
     }
 }
 
-// The numbers as a size, if they are one.
+// The numbers as a size, if both are 1 to 255.
 fn size_of(rows: u32, cols: u32) -> Option<Size>
     ensures some { IfSome result (λ size. IsSize rows cols × (size.rows ≡ rows) × (size.cols ≡ cols)) }
     ensures none { IfNone result (¬ (IsSize rows cols)) }

@@ -12,7 +12,7 @@ use std::alloc::Global;
 use vt_grid::Grid;
 use vt_screen::BLANK;
 
-/// Marks the cells as they are, in place of those that were marked before.
+/// Marks the present cells, in place of those of an earlier mark.
 #[unsafe(no_mangle)]
 pub extern "C" fn vt_screen_mark(handle: &mut ScreenHandle, alloc: Global) -> u8
     ensures nothing { IfNone handle.old.value ((result ≡ NOTHING) × (handle.new.value ≡ None)) }
@@ -31,7 +31,7 @@ pub extern "C" fn vt_screen_mark(handle: &mut ScreenHandle, alloc: Global) -> u8
     }
 }
 
-/// Whether each row differs from the marked cells: 1 or 0.
+/// Writes whether each row differs from the marked cells, from the top: 1 or 0.
 #[unsafe(no_mangle)]
 pub extern "C" fn vt_screen_changed(handle: &mut ScreenHandle, rows: &mut [u8], alloc: Global) -> u8
     ensures same { handle.new.value ≡ handle.old.value }
@@ -71,7 +71,7 @@ impl OwnedScreen {
     }
 }
 
-// Puts whether each row differs from the marked cells into the places from the first.
+// Writes whether each row differs from the marked cells into the first places.
 fn put_flags(mark: &Option<Grid>, grid: &Grid, places: &mut [u8])
     ensures { places.new ≡ with_items (changed_flags mark.now grid.now) places.old }
 {
@@ -101,7 +101,7 @@ fn flag(test: bool) -> u8
     u8::from(test)
 }
 
-// Whether the row is as it was marked.
+// Whether the row equals the marked one.
 fn is_as_marked(mark: &Grid, grid: &Grid, y: u8) -> bool
     requires { y < grid.now.rows }
     ensures { result ≡ is_as_marked mark.now grid.now y }
@@ -109,7 +109,7 @@ fn is_as_marked(mark: &Grid, grid: &Grid, y: u8) -> bool
     has_same_size(mark, grid) && mark.is_row_same(grid, y)
 }
 
-/// Whether the marked cells are as many as those of the screen.
+/// Whether the marked cells have the size of the screen.
 pub(crate) fn has_same_size(mark: &Grid, grid: &Grid) -> bool
     ensures test { result ≡ is_same_size mark.now grid.now }
     ensures same { IsTrue result → IsSameSize mark.now grid.now }

@@ -2,8 +2,8 @@ use std::marker::Model;
 use vt_grid::Grid;
 use vt_screen::{Emu, Outs};
 
-/// What a handle owns: a screen, the list of what its text says, which is kept from call to call, and the marked
-/// cells, if any.
+/// The value that a handle owns: a screen, the list of its outs, whose memory is used again at each call, and the
+/// marked cells, if any.
 #[derive(Drop)]
 pub struct OwnedScreen {
     pub(crate) emu: Emu,

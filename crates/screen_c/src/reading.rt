@@ -1,4 +1,4 @@
-//! What stands on a screen.
+//! Reads the cells and the state of a screen.
 ghost use Rattle.std.specs.Prelude.{◌≡◌, ◌<◌, ◌≤◌, ◌⊎◌, map, IfNone, IfSome, None, Some};
 ghost use Rattle.std.specs.List.{flat_map};
 ghost use Rattle.screen_c.specs.Places.{with_items};
@@ -143,7 +143,7 @@ impl OwnedScreen {
     }
 }
 
-// Puts the cells of a row into the places from the first.
+// Writes the cells of a row into the first places.
 fn put_cells(grid: &Grid, y: u8, places: &mut [VtCell])
     requires { y < grid.now.rows }
     ensures { places.new ≡ with_items (map c_cell (row_at grid.now y)) places.old }

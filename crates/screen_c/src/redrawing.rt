@@ -1,11 +1,12 @@
 //! A screen as a text that draws it again.
-ghost use Rattle.std.specs.Prelude.{◌≡◌, false, IfNone, IfOk, IfSome, IsTrue, None, Some};
-ghost use Rattle.screen_c.specs.Marks.{text_from_mark};
+ghost use Rattle.std.specs.Prelude.{◌≡◌, false, take, IfNone, IfOk, IfSome, IsTrue, None, Some};
+ghost use Rattle.screen_c.specs.Marks.{IsAtMark, text_from_mark};
 ghost use Rattle.screen_c.specs.Text.{HandsOver};
 ghost use Rattle.vt_redraw.specs.Drawable.{is_redrawable};
-ghost use Rattle.vt_redraw.specs.Redraw.{redraw_of};
+ghost use Rattle.vt_redraw.specs.Redraw.{IsSameSize, Redraws, redraw_of};
+ghost use Rattle.vt_screen.specs.Screen.{IsWhole, Screen};
 
-use crate::codes::{NO_MEMORY, NOT_DRAWABLE, NOTHING};
+use crate::codes::{NO_MEMORY, NOT_DRAWABLE, NOTHING, OK};
 use crate::handing_over::hand_over;
 use crate::marks::has_same_size;
 use crate::{OwnedScreen, ScreenHandle};
@@ -27,6 +28,9 @@ pub extern "C" fn vt_screen_redraw(
         → (result ≡ NOT_DRAWABLE) × (text.new ≡ text.old) × (count.new ≡ count.old)) }
     ensures text { IfSome handle.old.value (λ o. IsTrue (is_redrawable o.machine.state)
         → HandsOver (redraw_of o.machine.state) text.old text.new count.old count.new result) }
+    ensures again { IfSome handle.old.value (λ o. result ≡ OK → (other : Screen) → IsWhole other
+        → IsSameSize other.grid o.machine.state.grid
+        → Redraws o.machine.state other (take count.new text.new)) }
 {
     match handle.take(alloc) {
         None => NOTHING,
@@ -60,6 +64,9 @@ pub extern "C" fn vt_screen_redraw_changes(
         → (result ≡ NOT_DRAWABLE) × (text.new ≡ text.old) × (count.new ≡ count.old)) }
     ensures text { IfSome handle.old.value (λ o. IsTrue (is_redrawable o.machine.state)
         → HandsOver (text_from_mark o.mark o.machine.state) text.old text.new count.old count.new result) }
+    ensures again { IfSome handle.old.value (λ o. result ≡ OK → (other : Screen) → IsWhole other
+        → IsAtMark o.mark o.machine.state.grid other.grid
+        → Redraws o.machine.state other (take count.new text.new)) }
 {
     match handle.take(alloc) {
         None => NOTHING,
@@ -81,7 +88,10 @@ pub extern "C" fn vt_screen_redraw_changes(
 impl OwnedScreen {
     fn text_from_mark(&self, alloc: Global) -> Result<Bytes, NoMemory>
         requires { IsTrue (is_redrawable self.now.machine.state) }
-        ensures { IfOk result (λ text. text.bytes ≡ text_from_mark self.now.mark self.now.machine.state) }
+        ensures text { IfOk result (λ text. text.bytes ≡ text_from_mark self.now.mark self.now.machine.state) }
+        ensures again { IfOk result (λ text. (other : Screen) → IsWhole other
+            → IsAtMark self.now.mark self.now.machine.state.grid other.grid
+            → Redraws self.now.machine.state other text.bytes) }
     {
         if let Some(mark) = &self.mark {
             if has_same_size(mark, self.emu.grid()) {

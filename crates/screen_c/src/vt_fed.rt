@@ -1,4 +1,4 @@
-/// `struct vt_fed`: how much a feed did.
+/// `struct vt_fed`: how many bytes a feed ran and how many places it wrote.
 #[repr(C)]
 #[derive(Clone, Copy, Debug, Drop, PartialEq)]
 pub struct VtFed {

@@ -6,11 +6,11 @@ use vt_screen::Out;
 /// The most bytes of a report.
 const REPORT_BYTES: usize = 16;
 
-/// `struct vt_out`: what a text asks for beside the screen.
+/// `struct vt_out`: a report, a bell or a request of a text.
 #[repr(C)]
 #[derive(Clone, Copy, Debug, Drop, PartialEq)]
 pub struct VtOut {
-    /// What it is: 1 a report, 2 a console to bring to the front, 3 the previous one, 4 lights, 5 a bell.
+    /// The kind: 1 a report, 2 a console to bring to the front, 3 the previous one, 4 lights, 5 a bell.
     pub kind: u8,
     /// The console's number, or the lights.
     pub number: u8,

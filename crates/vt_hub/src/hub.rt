@@ -105,6 +105,7 @@ impl<J: Opening> Hub<J> {
             place,
             number: c,
             seq: 0,
+            kept: None,
         }
     }
 
@@ -126,6 +127,7 @@ impl<J: Opening> Hub<J> {
             place,
             number,
             seq: _,
+            kept: _,
         } = p;
         self.lock.join(&mut s.place, place);
         s.stands[usize::from(number.get())] = PassPlace::Home;
@@ -180,10 +182,11 @@ impl<J: Opening> Hub<J> {
     {
         let number = p.number;
         let seq = p.seq;
+        let mut rest = None;
         let mut held = self.lock.enter(rt, &mut p.place);
         let shared = held.value();
         shared.sound();
-        let answer = shared.call(number, seq, event, spare);
+        let answer = shared.call(number, seq, event, spare, &mut rest);
         shared.sound();
         let ended = shared.ended();
         match answer {
@@ -191,6 +194,7 @@ impl<J: Opening> Hub<J> {
                 held.publish();
                 held.leave();
                 self.wake_ups.wake(ended);
+                p.keep(rest);
                 p.seq = seq + 1;
                 Turn::Done { at, reply }
             }

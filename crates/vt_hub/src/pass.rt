@@ -1,10 +1,15 @@
-ghost use Rattle.std.specs.Prelude.{◌≡◌};
+ghost use Rattle.std.specs.Prelude.{◌≡◌, IfOk};
+ghost use Rattle.vt_world.specs.Spare.{Fits};
 
 use crate::opening::Opening;
 use crate::shared::Shared;
+use std::alloc::Global;
 use std::marker::Model;
 use turn_lock::Pass as Place;
-use vt_base::CallerNo;
+use vt_base::{CallerNo, NoMemory, Size};
+use vt_events::Event;
+use vt_grid::Grid;
+use vt_world::{Spare, spare_from};
 
 /// The pass of a caller. It may go to another thread. Contracts see what it knows of the history.
 #[derive(Drop)]
@@ -12,6 +17,8 @@ pub struct Pass<J: Opening> {
     pub(crate) place: Place<Shared<J>>,
     pub(crate) number: CallerNo,
     pub(crate) seq: u32,
+    // A grid that a call took and left, for the next one. Contracts don't see it.
+    pub(crate) kept: Option<Grid>,
 }
 
 impl<J: Opening> Model for Pass<J> {
@@ -31,5 +38,22 @@ impl<J: Opening> Pass<J> {
         ensures { result ≡ self.now.number }
     {
         self.number
+    }
+
+    /// The memory that the call may need, with the kept grid if it has the size.
+    pub(crate) fn spare(&mut self, alloc: Global, e: &Event, size: Size) -> Result<Spare, NoMemory>
+        ensures fits { IfOk result (λ spare. Fits size.rows size.cols e.now spare) }
+        ensures same { self.new ≡ self.old }
+    {
+        spare_from(alloc, e, size, &mut self.kept)
+    }
+
+    /// Keeps a grid for a later call.
+    pub(crate) fn keep(&mut self, grid: Option<Grid>)
+        ensures { self.new ≡ self.old }
+    {
+        if grid.is_some() {
+            self.kept = grid;
+        }
     }
 }

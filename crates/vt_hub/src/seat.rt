@@ -13,7 +13,6 @@ use std::marker::Model;
 use std::sync::Wait;
 use vt_base::NoMemory;
 use vt_events::Event;
-use vt_world::spare_for;
 
 /// Everything that a call needs except the pass: the handle for waiting, the allocator, and the hub.
 /// Threads may share it. Contracts see which hub it is.
@@ -48,7 +47,7 @@ impl<J: Opening, R: Wait> Seat<'_, J, R> {
         if matches!(event, Event::WaitEnd) {
             return Ok(self.hub.wait_end(self.rt, pass));
         }
-        let spare = spare_for(self.alloc, &event, self.hub.size())?;
+        let spare = pass.spare(self.alloc, &event, self.hub.size())?;
         Ok(self.hub.call(self.rt, pass, event, spare))
     }
 }

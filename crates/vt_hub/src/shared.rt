@@ -15,6 +15,7 @@ use std::marker::{Model, PhantomData};
 use turn_lock::Seal;
 use vt_base::{CallerNo, NoMemory};
 use vt_events::{Entry, Event, charge};
+use vt_grid::Grid;
 use vt_journal::{Full, Log};
 use vt_world::{
     Spare, World, displays_are_lawful_from, legal_grows, sizes_stay, tickets_are_called,
@@ -79,8 +80,16 @@ impl<J: Opening> Shared<J> {
     }
 
     /// One look of a caller that has made `seq` calls: it enters its next call, unless the hub has
-    /// stopped, its ticket is open, or there is no room. If there is none, the hub stops.
-    pub(crate) fn call(&mut self, caller: CallerNo, seq: u32, event: Event, spare: Spare) -> Turn
+    /// stopped, its ticket is open, or there is no room. If there is none, the hub stops. A grid that the
+    /// call doesn't use goes into `rest`.
+    pub(crate) fn call(
+        &mut self,
+        caller: CallerNo,
+        seq: u32,
+        event: Event,
+        spare: Spare,
+        rest: &mut Option<Grid>,
+    ) -> Turn
         requires fits { Fits J.start.rows J.start.cols event spare }
         requires number { seq ≡ length (made_by caller self.old.log.entries) }
         ensures { ComesTo caller seq event self.old self.new result }
@@ -106,11 +115,19 @@ impl<J: Opening> Shared<J> {
             });
             return Turn::Full(full);
         }
-        self.enter(caller, seq, event, charge, spare)
+        self.enter(caller, seq, event, charge, spare, rest)
     }
 
     // Enters the call, which has that charge.
-    fn enter(&mut self, caller: CallerNo, seq: u32, event: Event, charge: u32, spare: Spare) -> Turn
+    fn enter(
+        &mut self,
+        caller: CallerNo,
+        seq: u32,
+        event: Event,
+        charge: u32,
+        spare: Spare,
+        rest: &mut Option<Grid>,
+    ) -> Turn
         requires fits { Fits J.start.rows J.start.cols event spare }
         requires number { seq ≡ length (made_by caller self.old.log.entries) }
         requires open { self.old.stop ≡ None }
@@ -125,7 +142,8 @@ impl<J: Opening> Shared<J> {
         self.sound();
         let state = &mut *self.state;
         let at = state.log.entries().len() as u32;
-        let (reply, unused) = state.world.step(caller, &event, spare);
+        let (reply, unused, grid) = state.world.step_with_rest(caller, &event, spare);
+        *rest = grid;
         let _front = state.world.display().get();
         let waits = state.waits.after(&state.world, caller);
         state.ended = state.waits.without(waits);

@@ -28,5 +28,6 @@ pub use laws::{
     acts_tell_one_thing, each_hop_was_allowed, each_target_was_asked_for, only_hops_switch,
 };
 pub use mark::Mark;
+pub use mode::SIGKILL;
 pub use state::Switch;
 pub use words::Words;

@@ -6,7 +6,7 @@ use crate::{Handling, Handshake, Switch, Words};
 use vt_base::{CallerNo, ConsoleNo, Inval, Signal, VtMode};
 
 /// SIGKILL, which no handshake may use (signal(7)).
-const SIGKILL: u16 = 9;
+pub const SIGKILL: u16 = 9;
 
 impl Switch {
     /// Sets the mode of console `c` for process `p` (ioctl_console(2), VT_SETMODE).

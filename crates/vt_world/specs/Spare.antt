@@ -59,6 +59,16 @@ abbrev pub HasGrid : Option Extent → Option GridView → Type 0
 HasGrid None grid = ⊤
 HasGrid (Some size) grid = HasSize size grid
 
+-- a grid is needed, and there is one of the size that is needed
+abbrev pub IsFit : Option Extent → Option GridView → Type 0
+IsFit None grid = ⊥
+IsFit (Some size) grid = HasSize size grid
+
+-- a kept grid that fits is taken, and any other stays kept
+pub record IsTaken (needed : Option Extent) (kept grid left : Option GridView) : Type 0 where
+  pub fit : IsFit needed kept → (grid ≡ kept) × (left ≡ None)
+  pub other : (IsFit needed kept → ⊥) → left ≡ kept
+
 -- the spare is enough for the event, in a machine of this size
 pub record Fits (rows cols : ℕ) (e : Event) (spare : SpareView) : Type 0 where
   pub grid : HasGrid (needed_grid (extent rows cols) e) spare.grid

@@ -3,13 +3,12 @@ ghost use Rattle.vt_events.specs.Charge.{greatest_reply, text_of_reply};
 ghost use Rattle.vt_world.specs.Spare.{HasGrid, extent, needed_grid};
 ghost use Rattle.vt_world.specs.Step.{HasOutcome, step};
 
-use crate::spare::needed_grid;
+use crate::spare::{grid_from, needed_grid};
 use crate::world::World;
 use std::alloc::Global;
-use vt_base::{Bytes, CallerNo, NoMemory, Size};
+use vt_base::{Bytes, CallerNo, NoMemory};
 use vt_events::{Event, Reply, reply_bytes};
 use vt_grid::Grid;
-use vt_screen::BLANK;
 
 impl World {
     /// Takes a call of the caller and returns the answer: a step whose memory is allocated here. A
@@ -36,24 +35,7 @@ impl World {
         ensures grid { IfOk result (HasGrid (needed_grid (extent self.old.rows self.old.cols) event.now)) }
         ensures same { self.new ≡ self.old }
     {
-        match needed_grid(event, self.size) {
-            Some(size) => Ok(Some(self.grid_of(alloc, size)?)),
-            None => Ok(None),
-        }
-    }
-
-    // A grid of this size: the one that is kept, or a fresh one.
-    fn grid_of(&mut self, alloc: Global, size: Size) -> Result<Grid, NoMemory>
-        ensures rows { IfOk result (λ grid. grid.rows ≡ size.rows) }
-        ensures cols { IfOk result (λ grid. grid.cols ≡ size.cols) }
-        ensures same { self.new ≡ self.old }
-    {
-        if let Some(grid) = self.kept.take() {
-            if grid.size() == size {
-                return Ok(grid);
-            }
-        }
-        Ok(Grid::blank(alloc, size, BLANK)?)
+        grid_from(alloc, needed_grid(event, self.size), &mut self.kept)
     }
 
     // Keeps a grid for a later call.

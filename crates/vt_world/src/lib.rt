@@ -21,6 +21,6 @@ pub use laws::{
     one_translation, refused_calls_change_nothing, screens_are_tapes, sizes_stay, terminals_stay,
     tickets_are_called, traces_tell_news,
 };
-pub use spare::{Spare, spare_for};
+pub use spare::{Spare, spare_for, spare_from};
 pub use vt_switch::{Hop, Mark};
 pub use world::World;

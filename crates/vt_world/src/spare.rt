@@ -1,6 +1,6 @@
-ghost use Rattle.std.specs.Prelude.{◌≡◌, IfOk, Some, None, is_some, option_map, if◌then◌else◌};
+ghost use Rattle.std.specs.Prelude.{◌≡◌, ◌↔◌, IfOk, OnErr, IsTrue, Some, None, is_some, option_map, if◌then◌else◌};
 ghost use Rattle.vt_events.specs.Charge.{greatest_reply};
-ghost use Rattle.vt_world.specs.Spare.{Fits, HasGrid, empty_with, extent, extent_of, is_extent, needed_grid, no_spare};
+ghost use Rattle.vt_world.specs.Spare.{Fits, HasGrid, IsFit, IsTaken, empty_with, extent, extent_of, is_extent, needed_grid, no_spare};
 
 use std::alloc::Global;
 use std::marker::Model;
@@ -47,13 +47,61 @@ pub fn spare_for(alloc: Global, e: &Event, size: Size) -> Result<Spare, NoMemory
     ensures buffers { IfOk result (λ spare. (spare.reply ≡ empty_with (greatest_reply e.now))
         × (spare.unused ≡ empty_with (greatest_reply e.now))) }
 {
-    let grid = grid_of(alloc, needed_grid(e, size))?;
+    spare_from(alloc, e, size, &mut None)
+}
+
+/// The same memory. A kept grid of the size that the call needs is taken for it.
+pub fn spare_from(
+    alloc: Global,
+    e: &Event,
+    size: Size,
+    kept: &mut Option<Grid>,
+) -> Result<Spare, NoMemory>
+    ensures fits { IfOk result (λ spare. Fits size.rows size.cols e.now spare) }
+    ensures grid { IfOk result (λ spare. is_some spare.grid
+        ≡ is_some (needed_grid (extent size.rows size.cols) e.now)) }
+    ensures buffers { IfOk result (λ spare. (spare.reply ≡ empty_with (greatest_reply e.now))
+        × (spare.unused ≡ empty_with (greatest_reply e.now))) }
+    ensures kept { IfOk result (λ spare. IsTaken (needed_grid (extent size.rows size.cols) e.now)
+        kept.old spare.grid kept.new) }
+    ensures err { OnErr result (kept.new ≡ kept.old) }
+{
     let bytes = reply_bytes(e);
+    let reply = Bytes::with_room(alloc, bytes)?;
+    let unused = Bytes::with_room(alloc, bytes)?;
+    let grid = grid_from(alloc, needed_grid(e, size), kept)?;
     Ok(Spare {
         grid,
-        reply: Bytes::with_room(alloc, bytes)?,
-        unused: Bytes::with_room(alloc, bytes)?,
+        reply,
+        unused,
     })
+}
+
+/// A grid of the size that is needed: the kept one if it has this size, otherwise a new one.
+pub(crate) fn grid_from(
+    alloc: Global,
+    needed: Option<Size>,
+    kept: &mut Option<Grid>,
+) -> Result<Option<Grid>, NoMemory>
+    ensures size { IfOk result (λ grid. HasGrid (option_map extent_of needed) grid) }
+    ensures some { IfOk result (λ grid. is_some grid ≡ is_some needed) }
+    ensures kept { IfOk result (λ grid. IsTaken (option_map extent_of needed) kept.old grid kept.new) }
+    ensures err { OnErr result (kept.new ≡ kept.old) }
+{
+    if is_fit(needed, kept) {
+        return Ok(kept.take());
+    }
+    grid_of(alloc, needed)
+}
+
+// Whether there is a grid of the size that is needed.
+fn is_fit(needed: Option<Size>, grid: &Option<Grid>) -> bool
+    ensures { IsTrue result ↔ IsFit (option_map extent_of needed) grid.now }
+{
+    match (needed, grid) {
+        (Some(size), Some(grid)) => grid.size() == size,
+        _ => false,
+    }
 }
 
 fn grid_of(alloc: Global, needed: Option<Size>) -> Result<Option<Grid>, NoMemory>

@@ -23,6 +23,23 @@ impl World {
         ensures bytes { length (text_of_reply result.0) ≤ greatest_reply event.now }
         ensures unused { result.1 ≡ spare.unused }
     {
+        let (answer, unused, _grid) = self.step_with_rest(caller, event, spare);
+        (answer, unused)
+    }
+
+    /// The same step. It also returns the spare's grid, if the event didn't use it, or the old grid of
+    /// a screen that was resized.
+    pub fn step_with_rest(
+        &mut self,
+        caller: CallerNo,
+        event: &Event,
+        spare: Spare,
+    ) -> (Reply, Bytes, Option<Grid>)
+        requires fits { Fits self.old.rows self.old.cols event.now spare }
+        ensures step { HasOutcome (step self.old caller event.now) self.new result.0 }
+        ensures bytes { length (text_of_reply result.0) ≤ greatest_reply event.now }
+        ensures unused { result.1 ≡ spare.unused }
+    {
         let Spare {
             grid,
             reply,
@@ -30,7 +47,7 @@ impl World {
         } = spare;
         let mut grid = grid;
         let answer = self.step_on(caller, event, &mut grid, reply);
-        (answer, unused)
+        (answer, unused, grid)
     }
 
     /// The same step with a grid that is lent. The grid stays if the event doesn't use it; if a

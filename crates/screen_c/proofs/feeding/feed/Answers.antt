@@ -23,7 +23,13 @@ loop-n-preserved c =
     record {
       within = omega (arith, c.write_until-at.ensures.within, length-drop at text);
       room =
-          omega (arith, c.loop-n-test.true, c.write_until-at.ensures.one, c.put_said-n.ensures.count, c.put_said-n.ensures.size);
+          omega (
+            arith,
+            c.loop-n-test.true,
+            c.write_until-at.ensures.one,
+            c.put_said-n.ensures.count,
+            c.put_said-n.ensures.size,
+          );
       size = c.put_said-n.ensures.size ∙ c.loop-n.invariant.size;
       screen =
           c.write_until-at.ensures.screen

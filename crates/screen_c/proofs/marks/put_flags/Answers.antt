@@ -37,4 +37,12 @@ returns c =
     let flag : ℕ → ℕ = λ y. c_flag (is_changed c.args.mark.now grid y) in
     c.loop-n.invariant.places
     ∙ written_all (changed_flags c.args.mark.now grid) c.args.places.now c.loop-n.n
-    (omega (arith, c.loop-n-test.false, c.loop-n.invariant.within, c.min-count.ensures, c.from-rows.ensures, c.size.ensures.rows, length-map-range_with_len flag 0 grid.rows))
+    (omega (
+      arith,
+      c.loop-n-test.false,
+      c.loop-n.invariant.within,
+      c.min-count.ensures,
+      c.from-rows.ensures,
+      c.size.ensures.rows,
+      length-map-range_with_len flag 0 grid.rows,
+    ))

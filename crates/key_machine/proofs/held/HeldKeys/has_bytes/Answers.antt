@@ -1,4 +1,4 @@
-use Rattle.std.proofs.Common.{◌≡◌, List, ap, ◌∙◌, sym}
+use Rattle.std.proofs.Common.{List, ap, ◌∙◌, sym}
 use Rattle.key_machine.proofs.Unplugging.{left_all}
 use Rattle.key_machine.specs.Held.{left_to}
 use Rattle.key_machine.specs.Keys.{Down, without_keyboard}

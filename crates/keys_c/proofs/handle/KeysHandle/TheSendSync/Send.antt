@@ -23,7 +23,8 @@ parts = (search sendable, (search sendable depth 20, tt))
 
 held_keyless : (alloc : Global) (at : Ptr) (value : Option KeyboardView) → Keyless (held owned.the_row alloc at value)
 held_keyless alloc at None = tt
-held_keyless alloc at (Some x) = (lies owned.the_row the_send at x, frees.frees alloc (raw (lone (owned.the_row).mir)) at)
+held_keyless alloc at (Some x) =
+    (lies owned.the_row the_send at x, frees.frees alloc (raw (lone (owned.the_row).mir)) at)
 
 pub send : IsSend the_row
 send =

@@ -38,11 +38,13 @@ none_spec 𝓤 𝓛 𝓜 𝓡 wired =
     let a = z.0.3.0 in
     let Post : Val → SProp 𝓤 = (walk_of 𝓛 ended stays its).post z in
     let Run : List Val → SProp 𝓤 = λ vs. WpFn 𝓤 𝓛.H machine.C machine.Λ fn vs Post in
-    qed 𝓛 ((‵ ftrue ⊛ ‵ (owns (types_at ended.signature.params κs) z.0.3 z.0.4)) ∷ raw ((its κs z.0.3).requires z.1) ∷ []) ∵
+    qed 𝓛 ((‵ ftrue ⊛ ‵ (owns (types_at ended.signature.params κs) z.0.3 z.0.4))
+    ∷ raw ((its κs z.0.3).requires z.1) ∷ []) ∵
     split ! $ move ! (1 ∷ []) $ fsplit ! $
     handle_tells allocator ! a z.0.4.0 (λ h alone good.
     let v : Val = pair (ptr_val null_ptr) h in
-    suffices ! (Run (h ∷ [])) (subst (λ (us : List Val). ent 𝓤 (Run (h ∷ [])) (Run us)) (sym (λ i. alone i ++ [])) (id⊢ 𝓤 (Run (h ∷ [])))) $
+    suffices ! (Run (h ∷ []))
+    (subst (λ (us : List Val). ent 𝓤 (Run (h ∷ [])) (Run us)) (sym (λ i. alone i ++ [])) (id⊢ 𝓤 (Run (h ∷ [])))) $
     enter ! machine.C machine.Λ fn (h ∷ []) Post $ alloc_all ! (λ l. pass_all ! refl (good, tt) $
     -- [the allocator; nothing; nothing; the requires]
     sets ! (agg ! (and_then ! (lit ! tt) (and_then ! (get ! refl) (no_more !)))) refl (is_typed null_ptr h good) $

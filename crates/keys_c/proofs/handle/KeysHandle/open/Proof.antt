@@ -51,18 +51,21 @@ open_spec 𝓤 𝓛 𝓜 𝓡 wired =
     let Post : Val → SProp 𝓤 = (walk_of 𝓛 ended stays its).post z in
     let Run : List Val → SProp 𝓤 = λ vs. WpFn 𝓤 𝓛.H machine.C machine.Λ fn vs Post in
     let Out : RattleType = type_at ended.signature.result κs in
-    qed 𝓛 ((‵ ftrue ⊛ ‵ (owns (types_at ended.signature.params κs) z.0.3 z.0.4)) ∷ raw ((its κs z.0.3).requires z.1) ∷ []) ∵
+    qed 𝓛 ((‵ ftrue ⊛ ‵ (owns (types_at ended.signature.params κs) z.0.3 z.0.4))
+    ∷ raw ((its κs z.0.3).requires z.1) ∷ []) ∵
     split ! $ move ! (1 ∷ []) $ fsplit ! $
     apart ! d z.0.4.0 (λ h spelled good.
     let w : Val = pair (ptr_val d.at) h in
-    suffices ! (Run (w ∷ [])) (subst (λ (us : List Val). ent 𝓤 (Run (w ∷ [])) (Run us)) (sym (λ i. spelled i ++ [])) (id⊢ 𝓤 (Run (w ∷ [])))) $
+    suffices ! (Run (w ∷ []))
+    (subst (λ (us : List Val). ent 𝓤 (Run (w ∷ [])) (Run us)) (sym (λ i. spelled i ++ [])) (id⊢ 𝓤 (Run (w ∷ [])))) $
     enter ! machine.C machine.Λ fn (w ∷ []) Post $ alloc_all ! (λ l. pass_all ! refl (is_typed d.at h good, tt) $
     let E = env fn.locals l in
     -- [what is held; its allocator; nothing; nothing; the requires]
     by_null Owned ! d.alloc d.at d.value
     (λ place empty.
     let nothing_typed : Good (layout Out) (live 0 vnil) = (tt, (record { fits = lit< tt }, tt)) in
-    sets ! (is ! (of_opd ! (get_in ! (fld ! refl (stop !)) (sub ! 0 refl (whole !)))) (ap ptr_val place)) refl (Ptr-Good null_ptr) $
+    sets ! (is ! (of_opd ! (get_in ! (fld ! refl (stop !)) (sub ! 0 refl (whole !)))) (ap ptr_val place))
+    refl (Ptr-Good null_ptr) $
     sets ! (of_opd ! (get_in ! (fld ! refl (stop !)) (sub ! 1 refl (whole !)))) refl good $
     sets ! (bin ! (get ! refl) (lit ! tt) tt) refl (tt, tt) $
     first ! $ branches ! (get ! refl)
@@ -79,7 +82,8 @@ open_spec 𝓤 𝓛 𝓜 𝓡 wired =
     let v : Val = live 1 (vcons made vnil) in
     let v_typed : Good (layout Out) v = (and_tt _ made_typed.0, (record { fits = lit< tt }, (made_typed.1, tt))) in
     let r : Raw.Denot = record { at = block_ptr b o; alloc = d.alloc; value = m } in
-    sets ! (is ! (of_opd ! (get_in ! (fld ! refl (stop !)) (sub ! 0 refl (whole !)))) (ap ptr_val place)) refl (tt, tt) $
+    sets ! (is ! (of_opd ! (get_in ! (fld ! refl (stop !)) (sub ! 0 refl (whole !)))) (ap ptr_val place))
+    refl (tt, tt) $
     sets ! (of_opd ! (get_in ! (fld ! refl (stop !)) (sub ! 1 refl (whole !)))) refl good $
     sets ! (bin ! (get ! refl) (lit ! tt) (tests_null (block_ptr b o) testable)) refl (tt, tt) $
     first ! $ branches ! (get ! refl) (λ never. absurd never)
@@ -89,6 +93,7 @@ open_spec 𝓤 𝓛 𝓜 𝓡 wired =
     exec ! machine.C machine.Λ E (after 4 fn.body) (at_ret E Post) $ sets ! (of_opd ! (get ! refl)) refl v_typed $
     raw_box.together Owned Heap heap_laws.the_row_laws ghosts ! b o h d.alloc m $
     use1 𝓛 (‵ (Out.own_val (Some r) (v ∷ []))) (Some-of 𝓛 Raw r made) $
-    use0 𝓛 (raw (fact 𝓤 (d.value ≡ Some m))) (fact_i 𝓤 (d.value ≡ Some m) (emp 𝓤) full) $ nothing ! $ nothing ! $ fjoin ! $
+    use0 𝓛 (raw (fact 𝓤 (d.value ≡ Some m))) (fact_i 𝓤 (d.value ≡ Some m) (emp 𝓤) full) $
+    nothing ! $ nothing ! $ fjoin ! $
     returns ! (look_at ! 0 refl) $ free_all ! refl $ keep ! (3 ∷ 0 ∷ 2 ∷ 1 ∷ []) $
     by ! (leaves 𝓛 ended stays its z v (Some r) (tt, tt) (tt, tt)))))))

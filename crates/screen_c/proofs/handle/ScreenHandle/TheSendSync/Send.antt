@@ -22,7 +22,8 @@ fields_send = (search sendable, (search sendable depth 20, tt))
 
 held_keyless : (alloc : Global) (p : Ptr) (x : Option (owned.the_row).Denot) → Keyless (held owned.the_row alloc p x)
 held_keyless alloc p None = tt
-held_keyless alloc p (Some y) = (lies owned.the_row owned_send p y, frees.frees alloc (raw (lone (owned.the_row).mir)) p)
+held_keyless alloc p (Some y) =
+    (lies owned.the_row owned_send p y, frees.frees alloc (raw (lone (owned.the_row).mir)) p)
 
 pub send : IsSend the_row
 send =

@@ -42,12 +42,14 @@ of_spec 𝓤 𝓛 𝓜 𝓡 wired =
     let r = z.0.3.0 in
     let Post : Val → SProp 𝓤 = (walk_of 𝓛 ended stays its).post z in
     let Run : List Val → SProp 𝓤 = λ vs. WpFn 𝓤 𝓛.H machine.C machine.Λ fn vs Post in
-    qed 𝓛 ((‵ ftrue ⊛ ‵ (owns (types_at ended.signature.params κs) z.0.3 z.0.4)) ∷ raw ((its κs z.0.3).requires z.1) ∷ []) ∵
+    qed 𝓛 ((‵ ftrue ⊛ ‵ (owns (types_at ended.signature.params κs) z.0.3 z.0.4))
+    ∷ raw ((its κs z.0.3).requires z.1) ∷ []) ∵
     split ! $ move ! (1 ∷ []) $ fsplit ! $
     raw_box.apart Owned Heap heap_laws.the_row_laws ghosts ! r z.0.4.0 (λ b o h place spelled good.
     let w : Val = pair (vptr b o) h in
     let typed = is_typed (block_ptr b o) h good in
-    suffices ! (Run (w ∷ [])) (subst (λ (us : List Val). ent 𝓤 (Run (w ∷ [])) (Run us)) (sym (λ i. spelled i ++ [])) (id⊢ 𝓤 (Run (w ∷ [])))) $
+    suffices ! (Run (w ∷ []))
+    (subst (λ (us : List Val). ent 𝓤 (Run (w ∷ [])) (Run us)) (sym (λ i. spelled i ++ [])) (id⊢ 𝓤 (Run (w ∷ [])))) $
     enter ! machine.C machine.Λ fn (w ∷ []) Post $ alloc_all ! (λ l. pass_all ! refl (typed, tt) $
     -- [the box; its allocator; nothing; nothing; the requires]
     sets ! (of_opd ! (get_in ! (fld ! refl (stop !)) (sub ! 0 refl (whole !)))) refl (tt, tt) $
@@ -58,4 +60,5 @@ of_spec 𝓤 𝓛 𝓜 𝓡 wired =
     use0 𝓛 (raw (fact 𝓤 (Some r.value ≡ Some r.value))) (fact_i 𝓤 (Some r.value ≡ Some r.value) (emp 𝓤) refl) $
     nothing ! $ nothing ! $ fjoin ! $
     returns ! (look_at ! 0 refl) $ free_all ! refl $ keep ! (4 ∷ 0 ∷ 2 ∷ 1 ∷ []) $
-    by ! (leaves 𝓛 ended stays its z w (record { at = block_ptr b o; alloc = r.alloc; value = Some r.value }) (tt, tt) (tt, tt)))))
+    by ! (leaves 𝓛 ended stays its z w
+    (record { at = block_ptr b o; alloc = r.alloc; value = Some r.value }) (tt, tt) (tt, tt)))))

@@ -1,0 +1,26 @@
+/* Types a key of the C library COUNT times, down and up: `a`, Shift, or F1 with a string of four bytes. */
+#include <stdlib.h>
+#include <string.h>
+#include <vt.h>
+
+static const char keymap[] = "keymaps 0-1\nkeycode 30 = a\nkeycode 42 = Shift\nkeycode 59 = F1\nstring F1 = \"\\033[[A\"\n";
+
+int main(int count, char **words)
+{
+    struct vt_keys keys = { 0 };
+    struct vt_modes modes = { .repeat = 1 };
+    struct vt_text none = { 0 };
+    struct vt_fault fault;
+    struct vt_key key;
+    if (count != 3)
+        return 1;
+    uint8_t down = !strcmp(words[1], "a") ? 30 : !strcmp(words[1], "Shift") ? 42 : 59;
+    if (vt_keys_new(&keys, (const uint8_t *)keymap, strlen(keymap), &none, 0, &fault) != VT_OK)
+        return 4;
+    for (long n = atol(words[2]); n > 0; n--) {
+        vt_keys_scan(&keys, down, &modes, &key);
+        vt_keys_scan(&keys, down | 0x80, &modes, &key);
+    }
+    vt_keys_free(&keys);
+    return 0;
+}
