@@ -7,9 +7,9 @@ OUT is a folder that tools/build_c.sh filled (out/c in the clone). The programs 
 libtsm.c over the same engines/screen.h, compiled by cc -O3; an engine that isn't installed is left out. Each reads the
 first MiB of the ten kinds of text of inputs.py (`scroll` an eighth, `erase` and `lines` a sixteenth) at 25 by 80, and
 callgrind counts, less what an empty input takes. `single bytes` is libvt.c with a call for every byte; what that takes
-more than in long pieces is a call's own cost. Prints a table, the greatest ratio to `vt screen`, and the
-instructions of `vt_keys_scan` for three keys (engines/keys.c); the status is 1 if that ratio is over RATIO, or if the
-rows of libvt aren't those of `vt screen`.
+more than in long pieces is a call's own cost. Prints a table, the greatest ratio to `vt screen`, and the instructions of
+`vt_keys_scan` for three keys and for a byte that types none (engines/keys.c); the status is 1 if that ratio is over
+RATIO, or if the rows of libvt aren't those of `vt screen`.
 """
 import argparse
 import os
@@ -23,7 +23,7 @@ from screens import instructions, table
 
 HERE = pathlib.Path(__file__).resolve().parent
 SIZE = ["screen", "25", "80"]
-KEYS = ["a", "Shift", "F1"]
+KEYS = ["E0", "a", "Shift", "F1"]
 TYPED = 1000
 SINGLE = "single bytes"
 
@@ -36,7 +36,7 @@ def compiled(folder, name, source, *options):
 
 
 def typed(folder, *options):
-    """The rows of a table: for each key, the instructions of a scan byte that goes down, and comes up."""
+    """The rows of a table: for each key, the instructions of a scan byte, half of them down and half up."""
     words = ["cc", "-O3", "-Wall", "-Wextra", "-o", folder / "keys", HERE / "engines/keys.c", *options]
     subprocess.run(words, check=True)
     rows = []

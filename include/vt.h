@@ -137,8 +137,9 @@ uint8_t vt_screen_set_colour(struct vt_screen *s, uint32_t number, uint8_t red, 
 /* Sets the user's table of characters (ESC ( K): a word for each byte. VT_NOTHING. */
 uint8_t vt_screen_set_user(struct vt_screen *s, const uint16_t words[256]);
 
-/* The text that draws this screen on any terminal of its size that runs the sequences of console_codes(4). *length is
- * how long it is, at VT_OK and VT_NO_ROOM. VT_NOT_DRAWABLE, VT_NO_MEMORY, VT_NOTHING, VT_NO_ROOM. */
+/* The text that draws this screen on any terminal of its size that runs the sequences of console_codes(4) and waits for
+ * no more of one. *length is how long it is, at VT_OK and VT_NO_ROOM. VT_NOT_DRAWABLE, VT_NO_MEMORY, VT_NOTHING,
+ * VT_NO_ROOM. */
 uint8_t vt_screen_redraw(struct vt_screen *s, uint8_t *text, size_t room, size_t *length);
 
 /* The same for a terminal that shows the cells that vt_screen_mark remembered: only rows that differ are in the text.
@@ -213,7 +214,7 @@ void vt_keys_free(struct vt_keys *k);
 /* Types one scan byte. In VT_RAW it sends that byte itself, unless the attention key acts. VT_NOTHING. */
 uint8_t vt_keys_scan(struct vt_keys *k, uint8_t byte, const struct vt_modes *modes, struct vt_key *key);
 
-/* Releases all keys that are down; none of them sends anything. VT_NOTHING. */
+/* Releases the keys as if the keyboard were unplugged: none of them sends anything. VT_NOTHING. */
 uint8_t vt_keys_release(struct vt_keys *k);
 
 /* The key state (KDGKBMODE, KDGKBMETA, KDGKBLED, KDGETLED). VT_NOTHING. */

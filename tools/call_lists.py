@@ -4,17 +4,23 @@
 usage: tools/call_lists.py [--check]
 
 The doc comment of a variant of `Event` begins with the words of its call: the name, then a word for each field (HH is
-u8, B is `Bytes`, any other word is u16). Each list that these words determine is written into its file. --check only
-compares, apart from blanks, commas and ends of lines, names each list that differs, and ends with status 1 then. Run
-`rt fmt` in vt_events and unit_tests afterwards. The checker proves that the lists are equal to the definitions.
+u8, B is `Bytes`, any other word is u16). Each list that these words determine is written into its file. The rows of the
+test of all words are written by hand: a row stays, and only a call without one gets a generated row. If a row has the
+word of no call or of another row, nothing is written, and the status is 1.
+
+--check only compares, apart from blanks, commas and ends of lines, and names each list that differs. It also compares
+the words of each call with the table of calls in docs/JOURNAL.md. If anything differs, the status is 1. Run `rt fmt` in
+vt_events and unit_tests afterwards. The checker proves that the lists are equal to the definitions.
 """
 import pathlib
 import re
 import sys
 import textwrap
 
-CRATES = pathlib.Path(__file__).parent.parent / "crates"
+TOP = pathlib.Path(__file__).parent.parent
+CRATES = TOP / "crates"
 EVENT = CRATES / "vt_events/src/event.rt"
+PAGE = TOP / "docs/JOURNAL.md"
 BLANK_LINE = "\n\n"
 TYPES = {"HH": "u8", "B": "Bytes"}
 
@@ -24,6 +30,7 @@ class Call:
 
     def __init__(self, words, name, fields):
         self.name = name
+        self.words = words
         self.word, *places = words.split()
         self.fields = [it.lower() for it in places]
         self.numbers = [it.lower() for it in places if it not in TYPES]
@@ -105,8 +112,12 @@ def guesses(calls, file):
 def all_words(calls, file):
     """Returns the rows of the test of all words: those that it has, and one for each call that has none."""
     body = file.read_text().split("const CALLS: &[(&[u8], &str)] = &[\n")[1].split("];\n")[0]
-    rows = {re.match(r'\(b"(\w+)', line.strip())[1]: line.strip() for line in body.splitlines()}
-    return [rows.get(it.word) or it.row() for it in calls]
+    rows = [(re.match(r'\(b"(\w+)', line.strip())[1], line.strip()) for line in body.splitlines()]
+    words, known = [word for word, _ in rows], [it.word for it in calls]
+    wrong = [word for word in words if word not in known or words.count(word) > 1]
+    if wrong:
+        sys.exit(f"{file.relative_to(TOP)}: rows with the word of no call, or of another row: {', '.join(wrong)}")
+    return [dict(rows).get(it.word) or it.row() for it in calls]
 
 
 def lists(calls):
@@ -136,6 +147,19 @@ def lists(calls):
     yield words, "const CALLS: &[(&[u8], &str)] = &[\n", "];\n", 4, all_words(calls, words)
 
 
+def page_differences(calls):
+    """Returns a line for each call whose words differ from the table of calls of the page."""
+    table = PAGE.read_text().split("### The words of calls\n")[1].split("\n##")[0]
+    rows = [row for row in table.splitlines() if row.startswith("| `")]
+    on_page = [words for row in rows for words in re.findall(r"`([^`]+)`", row.split(" | ")[0])]
+    in_code = [it.words for it in calls]
+    place = PAGE.relative_to(TOP)
+    missing = [f"{place}: the table of calls lacks `{words}`" for words in in_code if words not in on_page]
+    unknown = [f"{place}: `{words}` has the words of no call" for words in on_page if words not in in_code]
+    twice = [f"{place}: `{words}` is there twice" for words in sorted(set(on_page)) if on_page.count(words) > 1]
+    return missing + unknown + twice
+
+
 def bare(text):
     """Returns the text without what `rt fmt` adds and removes."""
     return re.sub(r"[\s{},]", "", text)
@@ -143,7 +167,9 @@ def bare(text):
 
 def main(words):
     is_right = True
-    for file, before, after, depth, lines in lists(calls()):
+    known = calls()
+    # All lists are made before the first one is written.
+    for file, before, after, depth, lines in list(lists(known)):
         text = file.read_text()
         begin = text.index(before) + len(before)
         end = text.index(after, begin) + (after == BLANK_LINE)
@@ -152,10 +178,13 @@ def main(words):
             continue
         is_right = False
         if "--check" in words:
-            place = f"{file.relative_to(CRATES.parent)}: the list after {before.splitlines()[-1].strip()!r}"
+            place = f"{file.relative_to(TOP)}: the list after {before.splitlines()[-1].strip()!r}"
             print(f"{place} differs from the words of calls")
         else:
             file.write_text(text[:begin] + written + text[end:])
+    for line in page_differences(known) if "--check" in words else []:
+        is_right = False
+        print(line)
     return 0 if is_right or "--check" not in words else 1
 
 

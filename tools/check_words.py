@@ -5,9 +5,9 @@ usage: tools/check_words.py [--counts]
 
 The forms are those of PATTERNS: things that tell or say, "what" as a noun, "but" for except, "where" for if, a page
 named without a link, and lines of over 120 characters. Code, headings and text in backquotes don't count, nor does the
-length of a row of a table. LIMITS has how often a page may have each form, in the order of PATTERNS, and WRITTEN_LIMITS
-the same for the pages that tools/api.py writes. `--counts` prints the counts of each page. Status 1 means that a page
-is over a limit, or that README.md has over 100 lines.
+length of a row of a table. LIMITS has how often a page may have each form, in the order of PATTERNS; this includes the
+pages that tools/api.py writes. `--counts` prints the counts of each page. Status 1 means that a page is over a limit,
+or that README.md has over 100 lines.
 """
 import pathlib
 import re
@@ -44,9 +44,6 @@ PATTERNS = {
 }
 # How often a page may have each form, in the order of PATTERNS.
 LIMITS = (0, 1, 0, 0, 1, 0, 0, 0, 0)
-# Pages that a tool writes from the comments of the crates have limits of their own.
-WRITTEN = "docs/library/api/"
-WRITTEN_LIMITS = (0, 1, 5, 0, 1, 0, 0, 0, 0)
 
 
 def lines_of(text):
@@ -70,10 +67,10 @@ def main():
     over = []
     for page in pages():
         name = str(page.relative_to(TOP))
-        found, limits = counts(page), WRITTEN_LIMITS if name.startswith(WRITTEN) else LIMITS
+        found = counts(page)
         if "--counts" in sys.argv[1:]:
             print(f"{name}: " + ", ".join(map(str, found)))
-        for form, number, limit in zip(PATTERNS, found, limits):
+        for form, number, limit in zip(PATTERNS, found, LIMITS):
             if number > limit:
                 over.append(f"{name}: {form}: {number}, at most {limit}")
     lines = len((TOP / "README.md").read_text(encoding="utf-8").splitlines())

@@ -497,7 +497,7 @@ class Keyboard(_Object):
         return [event for event in (self.scan(byte, modes) for byte in bytes(scans)) if event is not None]
 
     def release(self):
-        """Releases all keys that are down; none of them sends anything."""
+        """Releases the keys as if the keyboard were unplugged: none of them sends anything."""
         self._call("release")
 
     @property

@@ -9,7 +9,7 @@ use vt_procs::{Config, ProcList, ProcStart};
 use vt_world::{World, nobody_waits_at_start};
 
 /// Consoles 1 and 2: bit n is console n.
-const CONSOLES: u64 = 0b110;
+const CONSOLE_SET: u64 = 0b110;
 
 /// Console 1 is in front, and no key types anything. Processes 1 and 2 are each at home on the console of their number.
 pub(crate) fn started(alloc: Global) -> Result<World, NoMemory>
@@ -19,7 +19,7 @@ pub(crate) fn started(alloc: Global) -> Result<World, NoMemory>
     let tables = KeyTables::empty(alloc, &[0])?;
     let config = Config {
         size: Size { rows: 2, cols: 20 },
-        consoles: CONSOLES,
+        consoles: CONSOLE_SET,
         front: ConsoleNo::numbered(1),
         procs: processes(),
         keyboards: 1,

@@ -1,13 +1,10 @@
 use crate::ending::Ending;
 use std::alloc::Global;
-use vt_base::{Bytes, Size};
+use vt_base::{Bytes, PIECE_BYTES, Size};
 use vt_grid::Grid;
 use vt_io::Source;
 use vt_picture::picture;
 use vt_screen::{BLANK, Emu};
-
-/// How many bytes are read at once.
-const PIECE_BYTES: usize = 4_096;
 
 /// The picture of the screen after the source's bytes.
 pub(crate) fn drawn<S: Source>(alloc: Global, source: &mut S, size: Size) -> Result<Bytes, Ending> {

@@ -8,7 +8,7 @@ use vt_procs::{Config, ProcList, ProcStart};
 use vt_world::World;
 
 /// Consoles 1 and 2: bit n is console n.
-const CONSOLES: u64 = 0b110;
+const CONSOLE_SET: u64 = 0b110;
 
 /// Signal 10 asks process 1 to let the display go, and signal 12 reports that it came back.
 const BY_SIGNALS: Event = Event::SetMode(0, 1, 0, 10, 12, 0);
@@ -36,7 +36,7 @@ fn started(alloc: Global) -> Result<World, NoMemory> {
     });
     let config = Config {
         size: Size { rows: 25, cols: 80 },
-        consoles: CONSOLES,
+        consoles: CONSOLE_SET,
         front: ConsoleNo::numbered(1),
         procs,
         keyboards: 1,

@@ -1,16 +1,9 @@
 -- The line of an entry, made word by word.
-use Rattle.std.proofs.Common.{◌≡◌, ℕ, List, [], ◌∷◌, ◌++◌, sym, ap, append_assoc}
-use Rattle.std.proofs.lemmas.List.{append-nil}
+use Rattle.std.proofs.Common.{◌≡◌, ℕ, List, [], ◌∷◌, ◌++◌, append_assoc}
 use Rattle.std.proofs.lemmas.List.Concat.{flat_map-append}
+use Rattle.vt_journal.proofs.Lines.{joined_by_blanks-cons}
 use Rattle.vt_journal.specs.Journal.{line_text}
 use Rattle.vt_journal.specs.Text.{blank_before_each}
-use Rattle.vt_journal.specs.Words.{joined_by_blanks}
-
-joined_by_blanks-cons : (word : List ℕ) (words : List (List ℕ))
-    → joined_by_blanks (word ∷ words) ≡ word ++ blank_before_each words
-joined_by_blanks-cons word [] = sym (append-nil word)
-joined_by_blanks-cons word (next ∷ words) =
-    ap (λ text. word ++ (0x20 ∷ text)) (joined_by_blanks-cons next words)
 
 -- caller, count, call, an equals sign and the answer
 pub entry_line : (caller seq sign : List ℕ) (call answer : List (List ℕ))

@@ -1,7 +1,9 @@
+pub mod FactText
 pub mod Facts
 pub mod Json
 pub mod Lines
 pub mod Sights
+pub mod StateText
 pub mod Texts
 pub mod Watch
 pub mod Words

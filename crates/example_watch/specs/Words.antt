@@ -1,6 +1,8 @@
 -- The words of the text. This project's own.
 use Rattle.std.specs.Prelude.{ℕ, List, [], ◌∷◌, ◌++◌, codes, drop}
 use Rattle.std.specs.List.{flat_map}
+use Rattle.example_watch.specs.declared.form.Form.{Form}
+use Rattle.example_watch.specs.declared.form.Form.TheVariants as form
 use Rattle.example_watch.specs.declared.wait_end.WaitEnd.{WaitEnd}
 use Rattle.example_watch.specs.declared.wait_end.WaitEnd.TheVariants as how
 use Rattle.vt_base.specs.declared.errno.Errno.{Errno}
@@ -35,11 +37,16 @@ wait_end_name how.Interrupted = codes "EINTR"
 wait_end_name how.Gone = codes "gone"
 
 -- a text between quotes
-unfoldable pub quoted : List ℕ → List ℕ
-quoted text = codes "\"" ++ (text ++ codes "\"")
+unfoldable pub in_quotes : List ℕ → List ℕ
+in_quotes text = codes "\"" ++ (text ++ codes "\"")
 
 -- the texts of some things, with a separator between each and the next; and a text for none
-abbrev pub listed : {A : Type 0} → List ℕ → List ℕ → (A → List ℕ) → List A → List ℕ
-listed none separator text [] = none
-listed none separator text (first ∷ others) =
+abbrev pub list_text : {A : Type 0} → List ℕ → List ℕ → (A → List ℕ) → List A → List ℕ
+list_text none separator text [] = none
+list_text none separator text (first ∷ others) =
     text first ++ flat_map (λ other. separator ++ text other) others
+
+-- of two texts, the one of the form
+abbrev pub by_form : Form → List ℕ → List ℕ → List ℕ
+by_form form.Lines in_lines in_json = in_lines
+by_form form.Json in_lines in_json = in_json

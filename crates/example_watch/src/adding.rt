@@ -1,7 +1,8 @@
 //! Parts of the text, each added at its end.
 ghost use Rattle.std.specs.Prelude.{◌≡◌, ◌++◌, decimal, OnOk};
-ghost use Rattle.example_watch.specs.Words.{caller_text, error_name, quoted, wait_end_name};
+ghost use Rattle.example_watch.specs.Words.{by_form, caller_text, error_name, in_quotes, wait_end_name};
 
+use crate::form::Form;
 use crate::wait_end::WaitEnd;
 use itoa::Buffer;
 use std::alloc::Global;
@@ -11,14 +12,30 @@ use vt_base::{Bytes, CallerNo, ConsoleNo, Errno, NoMemory, Signal};
 const VERSION: u8 = 2;
 
 /// Adds the bytes.
-pub fn add(alloc: Global, text: &mut Bytes, bytes: &[u8]) -> Result<(), NoMemory>
+pub(crate) fn add(alloc: Global, text: &mut Bytes, bytes: &[u8]) -> Result<(), NoMemory>
     ensures { OnOk result (text.new.bytes ≡ text.old.bytes ++ bytes.now) }
 {
     vt_journal::add(alloc, text, bytes)
 }
 
+/// Adds the bytes of the form.
+pub(crate) fn add_by_form(
+    alloc: Global,
+    text: &mut Bytes,
+    form: Form,
+    in_lines: &[u8],
+    in_json: &[u8],
+) -> Result<(), NoMemory>
+    ensures { OnOk result (text.new.bytes ≡ text.old.bytes ++ by_form form in_lines.now in_json.now) }
+{
+    match form {
+        Form::Lines => add(alloc, text, in_lines),
+        Form::Json => add(alloc, text, in_json),
+    }
+}
+
 /// Adds the number.
-pub fn add_number(alloc: Global, text: &mut Bytes, n: u64) -> Result<(), NoMemory>
+pub(crate) fn add_number(alloc: Global, text: &mut Bytes, n: u64) -> Result<(), NoMemory>
     ensures { OnOk result (text.new.bytes ≡ text.old.bytes ++ decimal n) }
 {
     let mut buffer = Buffer::new();
@@ -26,36 +43,40 @@ pub fn add_number(alloc: Global, text: &mut Bytes, n: u64) -> Result<(), NoMemor
 }
 
 /// Adds the number of an entry, or a count.
-pub fn add_count(alloc: Global, text: &mut Bytes, n: u32) -> Result<(), NoMemory>
+pub(crate) fn add_count(alloc: Global, text: &mut Bytes, n: u32) -> Result<(), NoMemory>
     ensures { OnOk result (text.new.bytes ≡ text.old.bytes ++ decimal n) }
 {
     add_number(alloc, text, u64::from(n))
 }
 
 /// Adds the console's number.
-pub fn add_console(alloc: Global, text: &mut Bytes, n: ConsoleNo) -> Result<(), NoMemory>
+pub(crate) fn add_console(alloc: Global, text: &mut Bytes, n: ConsoleNo) -> Result<(), NoMemory>
     ensures { OnOk result (text.new.bytes ≡ text.old.bytes ++ decimal n) }
 {
     add_number(alloc, text, u64::from(n.get()))
 }
 
 /// Adds the signal's number.
-pub fn add_signal(alloc: Global, text: &mut Bytes, signal: Signal) -> Result<(), NoMemory>
+pub(crate) fn add_signal(alloc: Global, text: &mut Bytes, signal: Signal) -> Result<(), NoMemory>
     ensures { OnOk result (text.new.bytes ≡ text.old.bytes ++ decimal signal) }
 {
     add_number(alloc, text, u64::from(signal.get()))
 }
 
 /// Adds the caller's word.
-pub fn add_caller(alloc: Global, text: &mut Bytes, caller: CallerNo) -> Result<(), NoMemory>
+pub(crate) fn add_caller(alloc: Global, text: &mut Bytes, caller: CallerNo) -> Result<(), NoMemory>
     ensures { OnOk result (text.new.bytes ≡ text.old.bytes ++ caller_text caller) }
 {
     vt_journal::add_caller(alloc, text, caller, VERSION)
 }
 
 /// Adds the caller's word between quotes.
-pub fn add_quoted_caller(alloc: Global, text: &mut Bytes, caller: CallerNo) -> Result<(), NoMemory>
-    ensures { OnOk result (text.new.bytes ≡ text.old.bytes ++ quoted (caller_text caller)) }
+pub(crate) fn add_quoted_caller(
+    alloc: Global,
+    text: &mut Bytes,
+    caller: CallerNo,
+) -> Result<(), NoMemory>
+    ensures { OnOk result (text.new.bytes ≡ text.old.bytes ++ in_quotes (caller_text caller)) }
 {
     add(alloc, text, b"\"")?;
     add_caller(alloc, text, caller)?;
@@ -64,8 +85,8 @@ pub fn add_quoted_caller(alloc: Global, text: &mut Bytes, caller: CallerNo) -> R
 }
 
 /// Adds the words between quotes.
-pub fn add_quoted(alloc: Global, text: &mut Bytes, words: &[u8]) -> Result<(), NoMemory>
-    ensures { OnOk result (text.new.bytes ≡ text.old.bytes ++ quoted words.now) }
+pub(crate) fn add_quoted(alloc: Global, text: &mut Bytes, words: &[u8]) -> Result<(), NoMemory>
+    ensures { OnOk result (text.new.bytes ≡ text.old.bytes ++ in_quotes words.now) }
 {
     add(alloc, text, b"\"")?;
     add(alloc, text, words)?;
@@ -74,7 +95,7 @@ pub fn add_quoted(alloc: Global, text: &mut Bytes, words: &[u8]) -> Result<(), N
 }
 
 /// Adds the error's name (errno(3)).
-pub fn add_error_name(alloc: Global, text: &mut Bytes, errno: Errno) -> Result<(), NoMemory>
+pub(crate) fn add_error_name(alloc: Global, text: &mut Bytes, errno: Errno) -> Result<(), NoMemory>
     ensures { OnOk result (text.new.bytes ≡ text.old.bytes ++ error_name errno) }
 {
     match errno {
@@ -91,7 +112,7 @@ pub fn add_error_name(alloc: Global, text: &mut Bytes, errno: Errno) -> Result<(
 }
 
 /// Adds how a wait ended.
-pub fn add_wait_end(alloc: Global, text: &mut Bytes, how: WaitEnd) -> Result<(), NoMemory>
+pub(crate) fn add_wait_end(alloc: Global, text: &mut Bytes, how: WaitEnd) -> Result<(), NoMemory>
     ensures { OnOk result (text.new.bytes ≡ text.old.bytes ++ wait_end_name how) }
 {
     match how {

@@ -4,7 +4,7 @@ use vt_base::{Bytes, NoMemory};
 
 /// How the program ends.
 #[derive(Clone, Copy, Drop)]
-pub enum Ending {
+pub(crate) enum Ending {
     Fine,
     Usage,
     ReadFault,
@@ -19,7 +19,7 @@ pub enum Ending {
 
 impl Ending {
     /// The exit status (docs/codes.md).
-    pub fn number(self) -> u8 {
+    pub(crate) fn number(self) -> u8 {
         match self {
             Ending::Fine => 0,
             Ending::Usage => 1,
@@ -33,7 +33,7 @@ impl Ending {
     }
 
     /// The line on standard error.
-    pub fn line(self, alloc: Global) -> Result<Bytes, NoMemory> {
+    pub(crate) fn line(self, alloc: Global) -> Result<Bytes, NoMemory> {
         let mut line = Bytes::new(alloc);
         match self {
             Ending::Fine => {}

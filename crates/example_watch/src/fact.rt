@@ -4,7 +4,7 @@ use vt_explain::HopWhy;
 
 /// A fact of an entry.
 #[derive(Clone, Copy, Debug)]
-pub enum Fact {
+pub(crate) enum Fact {
     /// Its caller requested the console, which is allocated.
     Request {
         caller: CallerNo,

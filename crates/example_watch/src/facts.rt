@@ -13,7 +13,7 @@ use vt_procs::Waiting;
 use vt_world::{Mark, World};
 
 /// The state of each caller's wait.
-pub fn waits_of(alloc: Global, world: &World) -> Result<Vec<Waiting>, NoMemory>
+pub(crate) fn waits_of(alloc: Global, world: &World) -> Result<Vec<Waiting>, NoMemory>
     ensures { IfOk result (λ waits. waits.items ≡ waits_of world.now) }
 {
     let callers = CallerNo::all();
@@ -26,7 +26,7 @@ pub fn waits_of(alloc: Global, world: &World) -> Result<Vec<Waiting>, NoMemory>
 }
 
 /// The facts of an entry's trace, if the history had so many switches before it.
-pub fn trace_facts(
+pub(crate) fn trace_facts(
     alloc: Global,
     caller: CallerNo,
     cert: &[HopWhy],
@@ -80,7 +80,7 @@ fn count_after(mark: &Mark, count: u64) -> u64
 }
 
 /// Adds the waits that ended, by rising callers.
-pub fn add_wait_facts(
+pub(crate) fn add_wait_facts(
     facts: &mut Vec<Fact>,
     before: &[Waiting],
     after: &World,

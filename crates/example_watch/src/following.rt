@@ -1,21 +1,21 @@
 //! A machine that follows a history, entry by entry.
 ghost use Rattle.std.specs.Prelude.{◌≡◌, ◌++◌, IfOk, OnOk, if◌then◌else◌};
 ghost use Rattle.example_watch.specs.Facts.{facts_of};
-ghost use Rattle.example_watch.specs.Lines.{change_line, entry_lines, state_words};
-ghost use Rattle.example_watch.specs.Json.{entry_object, state_members};
+ghost use Rattle.example_watch.specs.Lines.{change_line, entry_lines};
+ghost use Rattle.example_watch.specs.Json.{entry_object};
 ghost use Rattle.example_watch.specs.Sights.{is_same, since_after, sight_of, world_after};
+ghost use Rattle.example_watch.specs.StateText.{state_text};
 ghost use Rattle.example_watch.specs.Texts.{sight_text};
+ghost use Rattle.example_watch.specs.declared.form.Form.TheVariants as form_is;
 
 use crate::adding::add;
 use crate::fact::Fact;
-use crate::fact_lines::add_fact_lines;
-use crate::fact_objects::add_did;
+use crate::fact_text::add_facts;
 use crate::facts::{add_wait_facts, trace_facts, waits_of};
 use crate::form::Form;
 use crate::json::add_entry_members;
 use crate::lines::{add_answer_line, add_entry_line, add_lower_line};
-use crate::state_lines::state_words;
-use crate::state_members::add_state_members;
+use crate::state_text::{add_state, state_text};
 use std::alloc::Global;
 use vt_base::{Bytes, ConsoleNo, NoMemory};
 use vt_events::Entry;
@@ -24,14 +24,14 @@ use vt_world::World;
 
 /// The machine after the entries so far, and the entry since which the pending console has been the same.
 #[derive(Drop)]
-pub struct Following {
+pub(crate) struct Following {
     pub world: World,
     pub since: u32,
 }
 
 impl Following {
     /// Follows the entry at this place, and adds its text.
-    pub fn follow(
+    pub(crate) fn follow(
         &mut self,
         alloc: Global,
         form: Form,
@@ -46,7 +46,7 @@ impl Following {
         ensures text { OnOk result (text.new.bytes ≡ text.old.bytes
             ++ sight_text form cert.now (sight_of place self.old.since self.old.world entry.now)) }
     {
-        let state = state_words(alloc, &self.world, self.since)?;
+        let state = state_text(alloc, Form::Lines, &self.world, self.since)?;
         let facts = self.call(alloc, cert, place, entry)?;
         match form {
             Form::Lines => self.add_lines(alloc, text, entry, facts.as_slice(), state.as_slice()),
@@ -64,11 +64,11 @@ impl Following {
         before: &[u8],
     ) -> Result<(), NoMemory>
         ensures { OnOk result (text.new.bytes ≡ text.old.bytes
-            ++ entry_lines entry.now facts.now before.now (state_words self.now.world self.now.since)) }
+            ++ entry_lines entry.now facts.now before.now (state_text form_is.Lines self.now.world self.now.since)) }
     {
         add_entry_line(alloc, text, entry)?;
         add_answer_line(alloc, text, &entry.reply)?;
-        add_fact_lines(alloc, text, facts)?;
+        add_facts(alloc, text, Form::Lines, facts)?;
         self.add_change(alloc, text, before)?;
         Ok(())
     }
@@ -83,11 +83,11 @@ impl Following {
         facts: &[Fact],
     ) -> Result<(), NoMemory>
         ensures { OnOk result (text.new.bytes ≡ text.old.bytes
-            ++ entry_object place entry.now facts.now (state_members self.now.world self.now.since)) }
+            ++ entry_object place entry.now facts.now (state_text form_is.Json self.now.world self.now.since)) }
     {
         add_entry_members(alloc, text, place, entry)?;
-        add_did(alloc, text, facts)?;
-        add_state_members(alloc, text, &self.world, self.since)?;
+        add_facts(alloc, text, Form::Json, facts)?;
+        add_state(alloc, text, Form::Json, &self.world, self.since)?;
         add(alloc, text, b"}\n")?;
         Ok(())
     }
@@ -119,9 +119,9 @@ impl Following {
     // Adds the state, if its words aren't these.
     fn add_change(&self, alloc: Global, text: &mut Bytes, before: &[u8]) -> Result<(), NoMemory>
         ensures { OnOk result (text.new.bytes ≡ text.old.bytes
-            ++ change_line before.now (state_words self.now.world self.now.since)) }
+            ++ change_line before.now (state_text form_is.Lines self.now.world self.now.since)) }
     {
-        let state = state_words(alloc, &self.world, self.since)?;
+        let state = state_text(alloc, Form::Lines, &self.world, self.since)?;
         if before == state.as_slice() {
             return Ok(());
         }

@@ -1,6 +1,6 @@
 /// How a history is printed.
 #[derive(Clone, Copy, Debug)]
-pub enum Form {
+pub(crate) enum Form {
     /// Lines for a person.
     Lines,
     /// Objects of JSON for tools.

@@ -10,7 +10,7 @@ use vt_base::{Bytes, NoMemory};
 use vt_journal::{JError, Journal, parse, print, version_of};
 
 /// The text for the input.
-pub fn text_for(alloc: Global, form: Form, input: &[u8]) -> Result<Bytes, Ending> {
+pub(crate) fn text_for(alloc: Global, form: Form, input: &[u8]) -> Result<Bytes, Ending> {
     let (text, after) = cut(input);
     let session = session_of(alloc, text)?;
     let journal = if after.is_empty() {

@@ -2,7 +2,7 @@
 ghost use Rattle.std.specs.Prelude.{◌≡◌, ◌++◌, drop, OnOk};
 ghost use Rattle.std.specs.List.{flat_map};
 ghost use Rattle.example_watch.specs.Json.{end_line, entry_members, error_value, escaped_byte, control_text};
-ghost use Rattle.example_watch.specs.Words.{error_name, quoted, words_text};
+ghost use Rattle.example_watch.specs.Words.{error_name, in_quotes, words_text};
 ghost use Rattle.vt_journal.specs.Words.{event_words, reply_words};
 
 use crate::adding::{add, add_count, add_error_name, add_number, add_quoted, add_quoted_caller};
@@ -12,7 +12,7 @@ use vt_events::{Entry, Event, Reply};
 use vt_journal::{add_event, add_hex, add_reply};
 
 /// Adds the members of the entry itself.
-pub fn add_entry_members(
+pub(crate) fn add_entry_members(
     alloc: Global,
     text: &mut Bytes,
     place: u32,
@@ -36,7 +36,7 @@ pub fn add_entry_members(
 }
 
 fn add_call(alloc: Global, text: &mut Bytes, event: &Event) -> Result<(), NoMemory>
-    ensures { OnOk result (text.new.bytes ≡ text.old.bytes ++ quoted (words_text (event_words event.now))) }
+    ensures { OnOk result (text.new.bytes ≡ text.old.bytes ++ in_quotes (words_text (event_words event.now))) }
 {
     let mut words = Bytes::new(alloc);
     add_event(alloc, &mut words, event)?;
@@ -44,7 +44,7 @@ fn add_call(alloc: Global, text: &mut Bytes, event: &Event) -> Result<(), NoMemo
 }
 
 fn add_answer(alloc: Global, text: &mut Bytes, reply: &Reply) -> Result<(), NoMemory>
-    ensures { OnOk result (text.new.bytes ≡ text.old.bytes ++ quoted (words_text (reply_words reply.now))) }
+    ensures { OnOk result (text.new.bytes ≡ text.old.bytes ++ in_quotes (words_text (reply_words reply.now))) }
 {
     let mut words = Bytes::new(alloc);
     add_reply(alloc, &mut words, reply)?;
@@ -71,7 +71,7 @@ fn add_error(alloc: Global, text: &mut Bytes, reply: &Reply) -> Result<(), NoMem
 }
 
 fn add_quoted_error(alloc: Global, text: &mut Bytes, errno: Errno) -> Result<(), NoMemory>
-    ensures { OnOk result (text.new.bytes ≡ text.old.bytes ++ quoted (error_name errno)) }
+    ensures { OnOk result (text.new.bytes ≡ text.old.bytes ++ in_quotes (error_name errno)) }
 {
     add(alloc, text, b"\"")?;
     add_error_name(alloc, text, errno)?;
@@ -80,7 +80,12 @@ fn add_quoted_error(alloc: Global, text: &mut Bytes, errno: Errno) -> Result<(),
 }
 
 /// Adds the object of the end: how many entries there are, and this final text.
-pub fn add_end(alloc: Global, text: &mut Bytes, entries: u64, last: &[u8]) -> Result<(), NoMemory>
+pub(crate) fn add_end(
+    alloc: Global,
+    text: &mut Bytes,
+    entries: u64,
+    last: &[u8],
+) -> Result<(), NoMemory>
     ensures { OnOk result (text.new.bytes ≡ text.old.bytes ++ end_line entries last.now) }
 {
     add(alloc, text, b"{\"entries\":")?;

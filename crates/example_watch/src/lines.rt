@@ -10,7 +10,7 @@ use vt_events::{Entry, Reply};
 use vt_journal::{add_event, add_next, add_reply};
 
 /// Adds the entry's line of the journal.
-pub fn add_entry_line(alloc: Global, text: &mut Bytes, entry: &Entry) -> Result<(), NoMemory>
+pub(crate) fn add_entry_line(alloc: Global, text: &mut Bytes, entry: &Entry) -> Result<(), NoMemory>
     ensures { OnOk result (text.new.bytes ≡ text.old.bytes ++ line_text (entry_words 2 entry.now)) }
 {
     add_caller(alloc, text, entry.caller)?;
@@ -23,7 +23,11 @@ pub fn add_entry_line(alloc: Global, text: &mut Bytes, entry: &Entry) -> Result<
 }
 
 /// Adds the line of the error, if the answer is one.
-pub fn add_answer_line(alloc: Global, text: &mut Bytes, reply: &Reply) -> Result<(), NoMemory>
+pub(crate) fn add_answer_line(
+    alloc: Global,
+    text: &mut Bytes,
+    reply: &Reply,
+) -> Result<(), NoMemory>
     ensures { OnOk result (text.new.bytes ≡ text.old.bytes ++ answer_line reply.now) }
 {
     match reply {
@@ -42,7 +46,7 @@ fn add_error_line(alloc: Global, text: &mut Bytes, errno: Errno) -> Result<(), N
 }
 
 /// Adds a line below an entry.
-pub fn add_lower_line(alloc: Global, text: &mut Bytes, words: &[u8]) -> Result<(), NoMemory>
+pub(crate) fn add_lower_line(alloc: Global, text: &mut Bytes, words: &[u8]) -> Result<(), NoMemory>
     ensures { OnOk result (text.new.bytes ≡ text.old.bytes ++ lower_line words.now) }
 {
     add(alloc, text, b"    ")?;

@@ -10,7 +10,7 @@ use vt_procs::{Ticket, Waiting};
 use vt_world::World;
 
 /// Each console that has an owner, rising.
-pub fn owners_of(alloc: Global, world: &World) -> Result<Vec<Owner>, NoMemory>
+pub(crate) fn owners_of(alloc: Global, world: &World) -> Result<Vec<Owner>, NoMemory>
     ensures { IfOk result (λ owners. owners.items ≡ owners_of world.now) }
 {
     let consoles = ConsoleNo::all();
@@ -40,7 +40,7 @@ fn push_owner(owners: &mut Vec<Owner>, owner: Option<Owner>) -> Result<(), NoMem
 }
 
 /// Each caller that has an open wait, rising.
-pub fn waiters_of(alloc: Global, world: &World) -> Result<Vec<Waiter>, NoMemory>
+pub(crate) fn waiters_of(alloc: Global, world: &World) -> Result<Vec<Waiter>, NoMemory>
     ensures { IfOk result (λ waiters. waiters.items ≡ waiters_of world.now) }
 {
     let callers = CallerNo::all();

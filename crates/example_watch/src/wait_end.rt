@@ -1,6 +1,6 @@
 /// How a wait ended.
 #[derive(Clone, Copy, Debug)]
-pub enum WaitEnd {
+pub(crate) enum WaitEnd {
     /// The event that it waited for came.
     Done,
     /// A signal came, or the idle rule ended it.

@@ -2,7 +2,7 @@ use vt_base::Bytes;
 
 /// The result of watching a journal of a session.
 #[derive(Drop)]
-pub enum Watched {
+pub(crate) enum Watched {
     /// The journal is legal: the text with the facts of each entry.
     Text(Bytes),
     /// The journal isn't legal.

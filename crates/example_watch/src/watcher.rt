@@ -10,7 +10,7 @@ use crate::adding::add;
 use crate::following::Following;
 use crate::form::Form;
 use crate::json::add_end;
-use crate::state_lines::state_words;
+use crate::state_text::state_text;
 use crate::watched::Watched;
 use session_order::start_of;
 use session_run::{Run, final_text};
@@ -23,7 +23,12 @@ use vt_journal::{Journal, Log};
 use vt_world::World;
 
 /// The text with the facts of each entry of the journal, if it is a legal one of the session (docs/WATCH.md).
-pub fn watch_text(alloc: Global, form: Form, s: &Session, j: &Journal) -> Result<Watched, NoMemory>
+pub(crate) fn watch_text(
+    alloc: Global,
+    form: Form,
+    s: &Session,
+    j: &Journal,
+) -> Result<Watched, NoMemory>
     ensures judges { IfOk result
         (λ x. Judges (setup_of s.now) j.now.entries j.now.tail (verdict_of x)) }
     ensures text { IfOk result
@@ -65,7 +70,7 @@ fn head_text(alloc: Global, form: Form, world: &World) -> Result<Bytes, NoMemory
 {
     match form {
         Form::Lines => {
-            let mut text = state_words(alloc, world, 0)?;
+            let mut text = state_text(alloc, Form::Lines, world, 0)?;
             add(alloc, &mut text, b"\n")?;
             Ok(text)
         }

@@ -5,7 +5,7 @@ use std::env::{Env, FillError};
 const WORD_BYTES: usize = 16;
 
 /// The form that the program's words name.
-pub fn form_of_words(env: &impl Env) -> Option<Form> {
+pub(crate) fn form_of_words(env: &impl Env) -> Option<Form> {
     let mut buffer = [0; WORD_BYTES];
     match env.arg(1, &mut buffer) {
         Ok(len) => {

@@ -35,6 +35,7 @@ abbrev pub IsAtMarkIf : Bool → GridView → GridView → GridView → Type 0
 IsAtMarkIf true mark grid other = other ≡ mark
 IsAtMarkIf false mark grid other = IsSameSize other grid
 
+-- the same for a screen that may have no marked cells
 abbrev pub IsAtMark : Option GridView → GridView → GridView → Type 0
 IsAtMark None grid other = IsSameSize other grid
 IsAtMark (Some mark) grid other = IsAtMarkIf (is_same_size mark grid) mark grid other

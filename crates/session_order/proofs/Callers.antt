@@ -5,8 +5,8 @@ use Rattle.std.proofs.lemmas.List.{get_or-set_other, get_or-set_same, get_or_pas
 use Rattle.std.proofs.lemmas.Option.{none-some}
 use Rattle.std.specs.List.{list_any}
 use Rattle.std.specs.Prelude.{not, ◌&&◌, if◌then◌else◌}
-use Rattle.session_order.proofs.Ages.{AllAge, all_stay, at_map, at_set, breaks, holds, after_idle_rule_age, then_all, with_all}
-use Rattle.session_order.proofs.Deeds.{NoWait, OneWait, RowDoes, apply_deeds_age, row_does, apply_marks_age}
+use Rattle.vt_world.proofs.Ages.{AllAge, all_stay, at_map, at_set, breaks, holds, after_idle_rule_age, then_all, with_all}
+use Rattle.vt_world.proofs.Waits.{NoWait, OneWait, RowDoes, apply_deeds_age, row_does, apply_marks_age}
 use Rattle.session_order.proofs.Steps.{Accepted, RefusedByAll, RefusedByOwn, StepDoes, accepted, common_none, none_common, step_does}
 use Rattle.session_text.specs.Programs.{is_exit}
 use Rattle.vt_events.specs.Waits.{is_wait}

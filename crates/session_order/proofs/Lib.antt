@@ -1,7 +1,5 @@
-pub mod Ages
 pub mod Alive
 pub mod Callers
-pub mod Deeds
 pub mod Lively
 pub mod Meant
 pub mod Programs

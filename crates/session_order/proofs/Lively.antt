@@ -6,7 +6,7 @@ use Rattle.std.proofs.lemmas.List.{append-nil, map-append}
 use Rattle.std.proofs.lemmas.List.Elements.{filter-append}
 use Rattle.std.proofs.lemmas.Option.{none-some, same_Some}
 use Rattle.std.specs.Prelude.{◌==◌, ◌&&◌, not}
-use Rattle.session_order.proofs.Ages.{holds}
+use Rattle.vt_world.proofs.Ages.{holds}
 use Rattle.session_order.proofs.Alive.{Walked, next_alive, walked_more}
 use Rattle.session_order.proofs.Callers.{Awake, Sound, Stepped, exit_kills, stepped, waitend_collects}
 use Rattle.session_order.proofs.Programs.{next_fine}

@@ -6,7 +6,7 @@ use Rattle.std.proofs.lemmas.List.FromFn.{get_or-map-range_with_len, length-map-
 use Rattle.std.proofs.lemmas.Option.{none-some, slice_get_within}
 use Rattle.std.specs.List.{list_all, list_any, range_with_len}
 use Rattle.std.specs.Prelude.{◌==◌, nat_lt, not, is_some, slice_get, if◌then◌else◌}
-use Rattle.session_order.proofs.Ages.{holds}
+use Rattle.vt_world.proofs.Ages.{holds}
 use Rattle.session_order.proofs.Alive.{next_alive}
 use Rattle.session_order.proofs.Lively.{IsLively, Now, lively_more}
 use Rattle.session_order.proofs.Rounds.{finished_stays, is_none_none}

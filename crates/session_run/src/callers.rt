@@ -7,18 +7,15 @@ ghost use Rattle.session_text.specs.Walks.{Stands};
 use session_text::{Program, Walk, program_of};
 use sig_hooks::{Handler, Hook};
 use std::alloc::Global;
-use vt_base::{CallerNo, NoMemory};
+use vt_base::{CALLERS, CallerNo, NoMemory};
 use vt_events::Event;
-
-/// How many callers there are.
-const CALLERS: u16 = 68;
 
 /// The callers that have a program, rising.
 pub(crate) fn callers_in(alloc: Global, programs: &[Program]) -> Result<Vec<CallerNo>, NoMemory>
     ensures { IfOk result (λ callers. callers.items ≡ callers_in programs.now) }
 {
     let mut callers = Vec::new(alloc);
-    for i in 0..CALLERS {
+    for i in 0..CALLERS as u16 {
         let p = CallerNo::numbered(i);
         if program_of(programs, p).is_some() {
             callers.push(p)?;

@@ -22,10 +22,10 @@ use vt_journal::Limits;
 use vt_procs::{Config, ProcList, ProcStart};
 
 /// How many processes a drill has, each with a console of its own.
-const PROCESSES: u8 = 8;
+const DRILL_PROCESSES: u8 = 8;
 
 /// The consoles 1 to 8, bit n for console n.
-const CONSOLES: u64 = 0x1FE;
+const CONSOLE_SET: u64 = 0x1FE;
 
 /// The session of eight processes with `n` items each, made from the seed.
 pub fn drill_session(alloc: Global, n: u32, seed: u64) -> Result<Session, NoMemory>
@@ -37,7 +37,7 @@ pub fn drill_session(alloc: Global, n: u32, seed: u64) -> Result<Session, NoMemo
     let programs = programs(alloc, n as usize, seed)?;
     let config = Config {
         size: Size { rows: 25, cols: 80 },
-        consoles: CONSOLES,
+        consoles: CONSOLE_SET,
         front: ConsoleNo::numbered(1),
         keyboards: 1,
         procs: starts(),
@@ -64,7 +64,7 @@ fn starts() -> ProcList
     ensures { result ≡ map (λ p. record { home = p; privileged = true }) (range_with_len 1 8) }
 {
     let mut starts = ProcList::new();
-    for i in 0..PROCESSES {
+    for i in 0..DRILL_PROCESSES {
         starts.push(ProcStart {
             home: 1 + i,
             privileged: true,
@@ -83,7 +83,7 @@ fn programs(alloc: Global, n: usize, seed: u64) -> Result<Vec<Program>, NoMemory
     let mut draws = Draws::new(seed);
     let mut list = Vec::new(alloc);
     list.push(Program::Keys(keys(alloc, n)?))?;
-    for i in 0..PROCESSES {
+    for i in 0..DRILL_PROCESSES {
         list.push(script(alloc, &mut draws, n, 1 + u16::from(i))?)?;
     }
     Ok(list)

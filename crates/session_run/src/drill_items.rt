@@ -13,7 +13,7 @@ use vt_events::Event;
 use vt_journal::add;
 
 /// How many consoles a drill has.
-const CONSOLES: u64 = 8;
+const DRILL_CONSOLES: u64 = 8;
 
 /// An item, of one of eight kinds.
 pub(crate) fn item(alloc: Global, draws: &mut Draws) -> Result<Event, NoMemory>
@@ -49,7 +49,7 @@ fn console(draws: &mut Draws) -> u16
     ensures wait { event.WaitActive 0 result ≡ (wait_item draws.old).0 }
     ensures next { draws.new ≡ (activate_item draws.old).1 }
 {
-    1 + draws.below(CONSOLES) as u16
+    1 + draws.below(DRILL_CONSOLES) as u16
 }
 
 // A write of 1 to 32 printed bytes.

@@ -7,11 +7,9 @@ use crate::hook_texts::hook_of;
 use crate::hooked::Hooked;
 use sig_hooks::HookTable;
 use std::alloc::{AllocError, Global};
+use table_fields::fault_code::HOOK;
 use table_fields::{TableError, refused};
 use vt_base::{SigSet, Signal};
-
-/// The fault of a text that is no hook, or is one for a signal that has a hook already.
-const HOOK: u16 = 26;
 
 /// The hooks of process `part`: fault 26 at the first text that is no hook, or whose signal has one already.
 pub(crate) fn hooks(alloc: Global, part: u32, texts: &[&str]) -> Result<Hooked, TableError>

@@ -8,15 +8,10 @@ ghost use Rattle.session_text.specs.Openings.{IsOpening, consoles_in, consoles_o
 
 use crate::opening::SessionHeader;
 use std::alloc::Global;
+use table_fields::fault_code::{OUT_OF_RANGE, WRONG_KIND};
 use table_fields::{Numbers, TableError, at, integers, number, refused, within};
 use toml::{Table, Value};
 use vt_base::{ConsoleNo, is_among};
-
-/// The fault of a value of another kind.
-const KIND: u16 = 22;
-
-/// The fault of a number out of its range.
-const RANGE: u16 = 23;
 
 /// The rows of a screen.
 const ROWS: Numbers = Numbers {
@@ -85,7 +80,7 @@ fn some_consoles(numbers: &[i64]) -> Result<u64, TableError>
     ensures no_zero { IfOk result (λ set. is_among set 0 ≡ false) }
 {
     if numbers.is_empty() {
-        return Err(refused(RANGE, 0, 3));
+        return Err(refused(OUT_OF_RANGE, 0, 3));
     }
     consoles_in(numbers)
 }
@@ -96,9 +91,9 @@ fn consoles_in(numbers: &[i64]) -> Result<u64, TableError>
 {
     let mut set = 0;
     for number in numbers {
-        let n = within(*number, 1, 63, RANGE, 0, 3)?;
+        let n = within(*number, 1, 63, OUT_OF_RANGE, 0, 3)?;
         if is_among(set, n as usize) {
-            return Err(refused(RANGE, 0, 3));
+            return Err(refused(OUT_OF_RANGE, 0, 3));
         }
         set = with_console(set, n);
     }
@@ -130,19 +125,19 @@ fn front(consoles: u64, value: Option<&Value>) -> Result<ConsoleNo, TableError>
     let Some(value) = value else {
         return match lowest(consoles) {
             Some(n) => Ok(n),
-            None => Err(refused(RANGE, 0, 4)),
+            None => Err(refused(OUT_OF_RANGE, 0, 4)),
         };
     };
     let Some(number) = value.as_integer() else {
-        return Err(refused(KIND, 0, 4));
+        return Err(refused(WRONG_KIND, 0, 4));
     };
-    let n = within(number, 1, 63, RANGE, 0, 4)?;
+    let n = within(number, 1, 63, OUT_OF_RANGE, 0, 4)?;
     if !is_among(consoles, n as usize) {
-        return Err(refused(RANGE, 0, 4));
+        return Err(refused(OUT_OF_RANGE, 0, 4));
     }
     match ConsoleNo::new(n as u16) {
         Some(front) => Ok(front),
-        None => Err(refused(RANGE, 0, 4)),
+        None => Err(refused(OUT_OF_RANGE, 0, 4)),
     }
 }
 

@@ -13,15 +13,10 @@ use crate::hooks::hooks;
 use crate::process::Process;
 use crate::script_items::items;
 use std::alloc::Global;
+use table_fields::fault_code::{TOO_MANY, UNKNOWN_KEY};
 use table_fields::{Numbers, TableError, at, flag, number, refused, strings};
 use toml::Table;
 use vt_procs::ProcStart;
-
-/// The fault of a key that isn't known.
-const UNKNOWN_KEY: u16 = 21;
-
-/// The fault of more items than there may be.
-const TOO_MANY: u16 = 29;
 
 /// The most items of a script. This project's own.
 const ITEMS: usize = 10_240;

@@ -15,18 +15,10 @@ use crate::opening::SessionHeader;
 use crate::openings::opening;
 use crate::turns::turns;
 use std::alloc::Global;
+use table_fields::fault_code::{OUT_OF_RANGE, UNKNOWN_KEY};
 use table_fields::{TableError, at, count, refused, tables};
 use toml::Table;
-use vt_base::Bytes;
-
-/// The fault of a key that isn't known.
-const UNKNOWN_KEY: u16 = 21;
-
-/// The fault of a number out of its range.
-const RANGE: u16 = 23;
-
-/// The most processes. This project's own.
-const PROCESSES: usize = 64;
+use vt_base::{Bytes, PROCESSES};
 
 /// The values of a session's table, and the tables of its processes.
 #[derive(Drop)]
@@ -55,7 +47,7 @@ pub(crate) fn read_top<'a>(alloc: Global, table: &'a Table) -> Result<SessionTab
     let turns = turns(alloc, count(list), keyboards, at(table, "turns"))?;
     let tables = tables(alloc, list, 0, 11)?;
     if tables.len() > PROCESSES {
-        return Err(refused(RANGE, 0, 11));
+        return Err(refused(OUT_OF_RANGE, 0, 11));
     }
     let further = further(alloc, more)?;
     Ok(SessionTable {

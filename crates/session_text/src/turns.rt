@@ -6,18 +6,13 @@ ghost use Rattle.toml.specs.View.{view};
 ghost use Rattle.session_text.specs.Turns.{AreTurns, is_there, most_turns, turn_in, turns_of};
 
 use std::alloc::Global;
+use table_fields::fault_code::{TOO_MANY, TURN};
 use table_fields::{TableError, integers, refused};
 use toml::Value;
 use vt_base::Bytes;
 
 /// The most turns. This project's own.
 const MOST_TURNS: usize = 1_000_000;
-
-/// The fault of a turn that isn't the number of a caller that is there.
-const TURN: u16 = 28;
-
-/// The fault of more turns than there may be.
-const TOO_MANY: u16 = 29;
 
 /// The turns, each the number of one of so many processes or keyboards.
 pub(crate) fn turns(

@@ -4,7 +4,7 @@ use Rattle.std.specs.List.{All, flat_map}
 use Rattle.std.proofs.lemmas.List.{append-nil, map-append}
 use Rattle.std.proofs.lemmas.List.Concat.{flat_map-append}
 use Rattle.std.proofs.lemmas.List.Elements.{All-head, All-push, All-tail}
-use Rattle.vt_explain.proofs.Clear.{some_line}
+use Rattle.vt_journal.proofs.Once.{some_line}
 use Rattle.vt_explain.proofs.Items.{head_line_once, item_line_once}
 use Rattle.vt_explain.specs.CertText.{Begins, CertSays, IsFit, IsNoHead, IsNoItem, OneCert, PrintedIsRead, ReadIsPrinted, cert_text, head_words, item_lines, item_words, line_number}
 use Rattle.vt_explain.specs.CertText.CertSays.{BadHead, BadLine, OtherCount, Whole}

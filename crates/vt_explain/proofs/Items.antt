@@ -2,11 +2,13 @@
 use Rattle.std.proofs.Common.{◌≡◌, ℕ, ◌<◌, ◌≤◌, ◌^◌, Bool, true, false, true≢false, ◌&&◌, append-nil, List, [], ◌∷◌, ◌++◌, codes, decimal, refl, sym, ap, ◌∙◌, arith}
 use Rattle.std.specs.Prelude.{◌==◌}
 use Rattle.std.proofs.lemmas.Fmt.{decimal_injective}
-use Rattle.vt_explain.proofs.Clear.{are_clear, clear_number, words_of_text-joined_by_blanks, line_joined_by_blanks, lines_once, same_number}
+use Rattle.vt_explain.proofs.Clear.{clear_number}
 use Rattle.vt_explain.specs.CertText.{IsFit, IsFitAsk, IsFitCause, asked_words, cause_words, head_words, item_words}
 use Rattle.vt_explain.specs.declared.hop_cause.HopCause.{HopCause}
 use Rattle.vt_explain.specs.declared.hop_cause.HopCause.TheVariants as why
 use Rattle.vt_explain.specs.declared.hop_why.HopWhy.{HopWhy}
+use Rattle.vt_journal.proofs.Clear.{are_clear, words_of_text-joined_by_blanks, line_joined_by_blanks}
+use Rattle.vt_journal.proofs.Once.{lines_once, same_number}
 use Rattle.vt_journal.specs.Cut.{words_of_text}
 use Rattle.vt_journal.specs.Journal.{line_text}
 use Rattle.vt_journal.specs.Lines.{IsLine}
@@ -27,35 +29,36 @@ clear_cause (why.Released owner asked signal) fit =
 clear_cause (why.Died owner asked signal) fit =
     ap (λ b. true && b) (clear_ask owner asked signal fit)
 
-clear_item : (w : HopWhy) → IsFit w → are_clear (item_words w) ≡ true
-clear_item w fit =
-    let at = clear_number w.at fit.at in
+-- the words of an item after its first one
+abbrev later_words : HopWhy → List (List ℕ)
+later_words w = decimal w.nth ∷ decimal w.from ∷ decimal w.to ∷ cause_words w.cause
+
+clear_later : (w : HopWhy) → IsFit w → are_clear (later_words w) ≡ true
+clear_later w fit =
     let nth = clear_number w.nth fit.nth in
     let from = clear_number w.from (omega (arith, fit.from.1)) in
     let to = clear_number w.to (omega (arith, fit.to.1)) in
     let cause = clear_cause w.cause fit.cause in
-    λ j. at j && (nth j && (from j && (to j && cause j)))
+    λ j. nth j && (from j && (to j && cause j))
 
 pub cut_item : (w : HopWhy) → IsFit w → words_of_text (joined_by_blanks (item_words w)) ≡ item_words w
 cut_item w fit =
-    words_of_text-joined_by_blanks (decimal w.at)
-    (decimal w.nth ∷ decimal w.from ∷ decimal w.to ∷ cause_words w.cause) (clear_item w fit)
+    words_of_text-joined_by_blanks (decimal w.at) (later_words w) (clear_number w.at fit.at) (clear_later w fit)
 
 pub line_item : (w : HopWhy) → IsFit w → IsLine (joined_by_blanks (item_words w))
 line_item w fit =
-    line_joined_by_blanks (decimal w.at)
-    (decimal w.nth ∷ decimal w.from ∷ decimal w.to ∷ cause_words w.cause) (clear_item w fit)
+    line_joined_by_blanks (decimal w.at) (later_words w) (clear_number w.at fit.at) (clear_later w fit)
 
-clear_head : (n : ℕ) → n ≤ 4294967295 → are_clear (head_words n) ≡ true
-clear_head n fit =
+clear_count : (n : ℕ) → n ≤ 4294967295 → are_clear (decimal n ∷ []) ≡ true
+clear_count n fit =
     let number = clear_number n fit in
-    λ j. true && (number j && true)
+    λ j. number j && true
 
 pub cut_head : (n : ℕ) → n ≤ 4294967295 → words_of_text (joined_by_blanks (head_words n)) ≡ head_words n
-cut_head n fit = words_of_text-joined_by_blanks (codes "%explain") (decimal n ∷ []) (clear_head n fit)
+cut_head n fit = words_of_text-joined_by_blanks (codes "%explain") (decimal n ∷ []) refl (clear_count n fit)
 
 pub line_head : (n : ℕ) → n ≤ 4294967295 → IsLine (joined_by_blanks (head_words n))
-line_head n fit = line_joined_by_blanks (codes "%explain") (decimal n ∷ []) (clear_head n fit)
+line_head n fit = line_joined_by_blanks (codes "%explain") (decimal n ∷ []) refl (clear_count n fit)
 
 -- words are one ask and the words after it, in one way
 record SameAsk (p a s q b t : ℕ) (u v : List (List ℕ)) : Type 0 where

@@ -5,7 +5,7 @@ use Rattle.std.proofs.lemmas.List.{append-nil, map-append}
 use Rattle.std.proofs.lemmas.List.Concat.{flat_map-append}
 use Rattle.std.proofs.lemmas.List.Elements.{All-push}
 use Rattle.std.specs.List.{All}
-use Rattle.vt_explain.proofs.Clear.{joined_by_blanks-cons}
+use Rattle.vt_journal.proofs.Lines.{joined_by_blanks-cons}
 use Rattle.vt_explain.specs.CertText.{IsFit, item_lines, item_words}
 use Rattle.vt_explain.specs.declared.hop_why.HopWhy.{HopWhy}
 use Rattle.vt_journal.specs.Journal.{line_text}

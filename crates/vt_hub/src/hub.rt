@@ -182,11 +182,10 @@ impl<J: Opening> Hub<J> {
     {
         let number = p.number;
         let seq = p.seq;
-        let mut rest = None;
         let mut held = self.lock.enter(rt, &mut p.place);
         let shared = held.value();
         shared.sound();
-        let answer = shared.call(number, seq, event, spare, &mut rest);
+        let answer = shared.call(number, seq, event, spare, &mut p.kept);
         shared.sound();
         let ended = shared.ended();
         match answer {
@@ -194,7 +193,6 @@ impl<J: Opening> Hub<J> {
                 held.publish();
                 held.leave();
                 self.wake_ups.wake(ended);
-                p.keep(rest);
                 p.seq = seq + 1;
                 Turn::Done { at, reply }
             }

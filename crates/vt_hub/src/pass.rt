@@ -47,13 +47,4 @@ impl<J: Opening> Pass<J> {
     {
         spare_from(alloc, e, size, &mut self.kept)
     }
-
-    /// Keeps a grid for a later call.
-    pub(crate) fn keep(&mut self, grid: Option<Grid>)
-        ensures { self.new ≡ self.old }
-    {
-        if grid.is_some() {
-            self.kept = grid;
-        }
-    }
 }

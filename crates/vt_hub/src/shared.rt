@@ -81,14 +81,14 @@ impl<J: Opening> Shared<J> {
 
     /// One look of a caller that has made `seq` calls: it enters its next call, unless the hub has
     /// stopped, its ticket is open, or there is no room. If there is none, the hub stops. A grid that the
-    /// call doesn't use goes into `rest`.
+    /// call doesn't use is kept.
     pub(crate) fn call(
         &mut self,
         caller: CallerNo,
         seq: u32,
         event: Event,
         spare: Spare,
-        rest: &mut Option<Grid>,
+        kept: &mut Option<Grid>,
     ) -> Turn
         requires fits { Fits J.start.rows J.start.cols event spare }
         requires number { seq ≡ length (made_by caller self.old.log.entries) }
@@ -115,7 +115,7 @@ impl<J: Opening> Shared<J> {
             });
             return Turn::Full(full);
         }
-        self.enter(caller, seq, event, charge, spare, rest)
+        self.enter(caller, seq, event, charge, spare, kept)
     }
 
     // Enters the call, which has that charge.
@@ -126,7 +126,7 @@ impl<J: Opening> Shared<J> {
         event: Event,
         charge: u32,
         spare: Spare,
-        rest: &mut Option<Grid>,
+        kept: &mut Option<Grid>,
     ) -> Turn
         requires fits { Fits J.start.rows J.start.cols event spare }
         requires number { seq ≡ length (made_by caller self.old.log.entries) }
@@ -143,7 +143,7 @@ impl<J: Opening> Shared<J> {
         let state = &mut *self.state;
         let at = state.log.entries().len() as u32;
         let (reply, unused, grid) = state.world.step_with_rest(caller, &event, spare);
-        *rest = grid;
+        keep(kept, grid);
         let _front = state.world.display().get();
         let waits = state.waits.after(&state.world, caller);
         state.ended = state.waits.without(waits);
@@ -181,5 +181,12 @@ impl<J: Opening> Shared<J> {
             None => None,
         };
         (world, log, stop)
+    }
+}
+
+// Keeps a grid, if there is one.
+fn keep(kept: &mut Option<Grid>, grid: Option<Grid>) {
+    if grid.is_some() {
+        *kept = grid;
     }
 }

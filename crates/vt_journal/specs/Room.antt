@@ -17,7 +17,7 @@ pub record IsWithin (limits : Limits) (history : List Entry) : Type 0 where
   pub events : length history ≤ limits.events
   pub bytes : charge_of_all history ≤ limits.bytes
 
--- the journal with this history, which has no room for a call of that charge
+-- the numbers of a full journal: its entries, their charge, and the charge of the call that has no room
 abbrev pub full_at : List Entry → ℕ → Full
 full_at history charge =
     record { events = length history; bytes = charge_of_all history; charge = charge }

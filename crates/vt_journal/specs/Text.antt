@@ -2,7 +2,7 @@
 use Rattle.std.specs.Prelude.{◌≡◌, ℕ, List, ◌∷◌, length, take}
 use Rattle.std.specs.List.{flat_map}
 
--- a text begins with the text before it
+-- a text begins with another one
 pub record Begins (before text : List ℕ) : Type 0 where
   pub front : take (length before) text ≡ before
 

@@ -6,7 +6,6 @@ use Rattle.std.proofs.lemmas.Bool.{cases_lt}
 use Rattle.std.proofs.lemmas.List.{drop-take, length-append, length-drop, length-map, length-replicate, length-set, length-take-le, take_at}
 use Rattle.std.proofs.lemmas.List.FromFn.{length-range_with_len}
 use Rattle.vt_cells.specs.Width.{columns}
-use Rattle.vt_chars.specs.Utf8.{within}
 use Rattle.vt_redraw.proofs.Keeps.{Keeps, alignment_pattern_keeps, back_keeps, byte_keeps, cha_keeps, cnl_keeps, coding_keeps, colour_keeps, column_keeps, cpl_keeps, cub_keeps, cud_keeps, cuf_keeps, cuu_keeps, dch_keeps, dim_keeps, dl_keeps, each_keeps, ech_keeps, ed_keeps, el_keeps, g0_keeps, g1_keeps, ich_keeps, il_keeps, after_shift_keeps, keeps_if, keeps_nothing, keypad_keeps, linefeed_keeps, mode_keeps, newline_keeps, next_keeps, pair_keeps, place_keeps, print_keeps, private_keeps, region_keeps, restore_keeps, reverse_keeps, save_keeps, sgr_keeps, start_palette_keeps, underline_keeps, vpa_keeps}
 use Rattle.vt_redraw.specs.Behind.{IsAlike, TextsFollow, with_stops}
 use Rattle.vt_redraw.specs.Redraw.{IsStored, redrawn_on}
@@ -181,11 +180,13 @@ control_row code =
     if_row (code == 0x07) _ _ (with_out_row (λ s. Bell) (λ st s. refl))
     (if_row (code == 0x08) _ _ (without_out_row _ back_keeps)
     (if_row (code == 0x09) _ _ (tab_row)
-    (if_row (within 0x0A 0x0C code) _ _ (without_out_row _ newline_keeps)
+    (if_row (code == 0x0A) _ _ (without_out_row _ newline_keeps)
+    (if_row (code == 0x0B) _ _ (without_out_row _ newline_keeps)
+    (if_row (code == 0x0C) _ _ (without_out_row _ newline_keeps)
     (if_row (code == 0x0D) _ _ (without_out_row _ (column_keeps 0))
     (if_row (code == 0x0E) _ _ (without_out_row _ (after_shift_keeps 1 true))
     (if_row (code == 0x0F) _ _ (without_out_row _ (after_shift_keeps 0 false))
-    (nothing_row)))))))
+    (nothing_row)))))))))
 
 device_row : (which : ℕ) → Row (device_report which)
 unfolding device_report

@@ -148,20 +148,6 @@ settled_text erases old new code more other low front blanks attr =
     (sym (spaces_before erases old.attr old.blanks cell more
     (ap (λ (t : Bool). t && old.attr == old.attr) other)))
 
-spaces_then : (now n : ℕ) (more : List Cell) → replicate (suc n) (space_with now) ++ more ≡ replicate n (space_with now) ++ space_with now ∷ more
-spaces_then now zero more = refl
-spaces_then now (suc n) more = ap (λ (cells : List Cell). space_with now ∷ cells) (spaces_then now n more)
-
--- one more space
-pub space_text : (erases : Bool) (old new : Pending) (code : ℕ) (more : List Cell) → code ≡ 0x20
-    → new.front ≡ old.front → new.blanks ≡ old.blanks + 1 → new.attr ≡ old.attr
-    → pending_text erases new more ≡ pending_text erases old (record { code = code; attr = old.attr } ∷ more)
-space_text erases old new code more space front blanks attr =
-    let one_more : old.blanks + 1 ≡ suc old.blanks = omega arith in
-    (λ i. front i ++ cells_text erases (attr i) (replicate ((blanks ∙ one_more) i) (space_with (attr i)) ++ more))
-    ∙ ap (λ (cells : List Cell). old.front ++ cells_text erases old.attr cells) (spaces_then old.attr old.blanks more)
-    ∙ (λ i. old.front ++ cells_text erases old.attr (replicate old.blanks (space_with old.attr) ++ record { code = sym space i; attr = old.attr } ∷ more))
-
 -- a half has no text, and the spaces before it are no blank end
 pub half_text : (erases : Bool) (old new : Pending) (c : Cell) (more : List Cell) → c.code ≡ half
     → new.front ≡ old.front ++ replicate old.blanks 0x20 → new.blanks ≡ 0 → new.attr ≡ old.attr

@@ -7,13 +7,13 @@ ghost use Rattle.vt_redraw.specs.Pending.{pending_text};
 use vt_base::ShortList;
 
 /// The most bytes of a row's characters: four for each.
-const MOST: usize = 1_020;
+const MOST_ROW_BYTES: usize = 1_020;
 
 /// Characters in UTF-8 and then spaces, all in the byte that the pen has. The spaces are a blank end if no other
 /// character follows them.
 #[derive(Drop)]
 pub(crate) struct Pending {
-    pub(crate) front: ShortList<u8, MOST>,
+    pub(crate) front: ShortList<u8, MOST_ROW_BYTES>,
     pub(crate) blanks: u16,
     pub(crate) attr: u16,
 }

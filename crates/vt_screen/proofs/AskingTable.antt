@@ -1,7 +1,6 @@
 -- The requests of each case of the effect table.
 use Rattle.std.proofs.Common.{◌≡◌, ℕ, ◌-◌, ◌≤◌, ◌==◌, ◌&&◌, ◌||◌, not, Bool, true, false, List, nat_le, cond, Some, None, refl, arith}
 use Rattle.std.specs.Prelude.{Option}
-use Rattle.vt_chars.specs.Utf8.{within}
 use Rattle.vt_screen.specs.Asking.{asks}
 use Rattle.vt_screen.specs.Effect.{control, control_sequence, effect, escape, number_at, plain_escape, private_sequence}
 use Rattle.vt_screen.specs.Saying.{Effect, console_setting, device_report, lights, without_out, with_out, status_report}
@@ -64,10 +63,12 @@ control-without_out code s =
     both_without_out (code == 0x07) _ _ refl
     (both_without_out (code == 0x08) _ _ refl
     (both_without_out (code == 0x09) _ _ refl
-    (both_without_out (within 0x0A 0x0C code) _ _ refl
+    (both_without_out (code == 0x0A) _ _ refl
+    (both_without_out (code == 0x0B) _ _ refl
+    (both_without_out (code == 0x0C) _ _ refl
     (both_without_out (code == 0x0D) _ _ refl
     (both_without_out (code == 0x0E) _ _ refl
-    (both_without_out (code == 0x0F) _ (without_out s) refl refl))))))
+    (both_without_out (code == 0x0F) _ (without_out s) refl refl))))))))
 
 plain_escape-without_out : (last : ℕ) (s : Screen) → asked (plain_escape last s).said ≡ 0
 unfolding plain_escape

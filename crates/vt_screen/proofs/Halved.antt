@@ -4,7 +4,6 @@ use Rattle.std.specs.Prelude.{All}
 use Rattle.std.proofs.lemmas.List.Elements.{All-append, All-drop, All-take}
 use Rattle.vt_cells.specs.Width.{half, is_half}
 use Rattle.vt_cells.specs.declared.cell.Cell.{Cell}
-use Rattle.vt_chars.specs.Utf8.{within}
 use Rattle.vt_grid.specs.Grid.{cells_of_codes}
 use Rattle.vt_screen.proofs.Edits.{Each, Edits}
 use Rattle.vt_screen.specs.Cursor.{at_column, at_row, linefeed, cursor_to, newline, cursor_to_in_region, region_down, region_up, reverse_linefeed, tab}
@@ -273,10 +272,12 @@ module _ (Row : List Cell → Type 0) where
         either-done (code == 0x07) _ _ h
         (either-done (code == 0x08) _ _ h
         (either-done (code == 0x09) _ _ (tabbed s h)
-        (either-done (within 0x0A 0x0C code) _ _ (new-line s h)
+        (either-done (code == 0x0A) _ _ (new-line s h)
+        (either-done (code == 0x0B) _ _ (new-line s h)
+        (either-done (code == 0x0C) _ _ (new-line s h)
         (either-done (code == 0x0D) _ _ h
         (either-done (code == 0x0E) _ _ (invoked 1 true s h)
-        (either-done (code == 0x0F) _ (without_out s) (invoked 0 false s h) h))))))
+        (either-done (code == 0x0F) _ (without_out s) (invoked 0 false s h) h))))))))
 
     plain-escape-keeps : (last : ℕ) (s : Screen) → HasHalves s → HasHalves (plain_escape last s).screen
     unfolding plain_escape

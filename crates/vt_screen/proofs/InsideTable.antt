@@ -1,7 +1,6 @@
 -- Each case of the effect table leaves the cursor inside.
 use Rattle.std.proofs.Common.{ℕ, ◌+◌, ◌-◌, ◌==◌, ◌&&◌, Bool, true, false, List, nat_lt, nat_le, ap, ◌∙◌, ◌≡◌, arith}
 use Rattle.std.specs.Prelude.{IsTrue}
-use Rattle.vt_chars.specs.Utf8.{within}
 use Rattle.vt_screen.proofs.Insides.{IsInside, characters_deleted, characters_erased, characters_inserted, coded, cursor_cursor_to, cursor_cursor_to_in_region, display_erased, each_keeps, either, either_done, either_done_if, first_column, first_set, invoked, keypad_set, line_feed, lines_deleted, lines_inserted, mode_set, new_line, pen_set, private_mode_set, region_set, restored, reverse_line_feed, row_erased, cursor_saved, screen_alignment_pattern, screen_reset, second_set, stop_set, stops_cleared, tabbed, to_column}
 use Rattle.vt_screen.specs.Cursor.{at_column}
 use Rattle.vt_screen.specs.Effect.{control, control_sequence, count_of, escape, number_at, plain_escape, private_sequence}
@@ -50,10 +49,12 @@ module _ (rule : Saved → ℕ → ℕ → Type 0) where
       either_done rule (code == 0x07) _ _ h
       (either_done rule (code == 0x08) _ _ (back-one s h)
       (either_done rule (code == 0x09) _ _ (tabbed rule s h)
-      (either_done rule (within 0x0A 0x0C code) _ _ (new_line rule s h)
+      (either_done rule (code == 0x0A) _ _ (new_line rule s h)
+      (either_done rule (code == 0x0B) _ _ (new_line rule s h)
+      (either_done rule (code == 0x0C) _ _ (new_line rule s h)
       (either_done rule (code == 0x0D) _ _ (first_column rule s h)
       (either_done rule (code == 0x0E) _ _ (invoked rule 1 true s h)
-      (either_done rule (code == 0x0F) _ (without_out s) (invoked rule 0 false s h) h))))))
+      (either_done rule (code == 0x0F) _ (without_out s) (invoked rule 0 false s h) h))))))))
 
   -- what is saved keeps to the rule where an act saves or resets
   abbrev Saving : Bool → Screen → Type 0

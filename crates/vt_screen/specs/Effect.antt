@@ -1,8 +1,8 @@
--- The effect table: the effect of each unit on a screen, and its side effect, a case for each in the order
--- of console_codes(4). The modules `Cursor`, `Printing`, `Erasing`, `Settings` and `Saying` define the
--- cases. A unit without a case has no effect.
-use Rattle.std.specs.Prelude.{ℕ, true, false, ◌+◌, ◌-◌, ◌==◌, max, List, slice_index, if◌then◌else◌}
-use Rattle.vt_chars.specs.Utf8.{within}
+-- The effect table: the effect of each unit on a screen, and its side effect. Control characters, escape
+-- sequences and control sequences have a table each, with a row for each last byte, in the order of
+-- console_codes(4). The modules `Cursor`, `Printing`, `Erasing`, `Settings` and `Saying` define the effects.
+-- A unit without a row has no effect.
+use Rattle.std.specs.Prelude.{ℕ, true, false, ◌+◌, ◌-◌, ◌==◌, max, List, [], ◌∷◌, codes, slice_index, if◌then◌else◌}
 use Rattle.vt_screen.specs.Cursor.{at_column, linefeed, cursor_to, newline, cursor_to_in_region, reverse_linefeed, tab}
 use Rattle.vt_screen.specs.Erasing.{delete_characters, delete_lines, erase_characters, erase_display, erase_line, insert_characters, insert_lines}
 use Rattle.vt_screen.specs.Printing.{print, print_character, character_of_byte}
@@ -13,49 +13,78 @@ use Rattle.vt_screen.specs.declared.out.Out.TheVariants.{Bell}
 use Rattle.vt_units.specs.declared.unit.Unit as units
 use Rattle.vt_units.specs.declared.unit.Unit.TheVariants.{Char, Byte, Control, Esc, Csi, Colour, ColourReset, Ignored}
 
+-- a row of a table: the last byte, its mnemonic, and the effect, by the parameters
+pub record EffectRow : Type 0 where
+  pub last : ℕ
+  pub mnemonic : List ℕ
+  pub does : List ℕ → Screen → Effect
+
+abbrev pub row : ℕ → List ℕ → (List ℕ → Screen → Effect) → EffectRow
+row last mnemonic does = record { last = last; mnemonic = mnemonic; does = does }
+
+-- a parameter by its place, from 0; one that isn't there is 0
+abbrev pub number_at : List ℕ → ℕ → ℕ
+number_at params place = slice_index params place
+
+-- how often, how many or which: the first parameter, with 0 taken as 1
+abbrev pub count_of : List ℕ → ℕ
+count_of params = max 1 (number_at params 0)
+
+-- a row without parameters and without a side effect
+abbrev pub plain : ℕ → List ℕ → (Screen → Screen) → EffectRow
+plain last mnemonic does = row last mnemonic (λ params s. without_out (does s))
+
+-- a row whose parameter is a count
+abbrev pub counts : ℕ → List ℕ → (ℕ → Screen → Screen) → EffectRow
+counts last mnemonic does = row last mnemonic (λ params s. without_out (does (count_of params) s))
+
+-- a row whose parameter is a number
+abbrev pub takes : ℕ → List ℕ → (ℕ → Screen → Screen) → EffectRow
+takes last mnemonic does = row last mnemonic (λ params s. without_out (does (number_at params 0) s))
+
+-- a row of any number of parameters
+abbrev pub takes_all : ℕ → List ℕ → (List ℕ → Screen → Screen) → EffectRow
+takes_all last mnemonic does = row last mnemonic (λ params s. without_out (does params s))
+
+-- the effect of the row that has this last byte; a byte without a row has no effect
+abbrev pub look_up : List EffectRow → List ℕ → ℕ → Screen → Effect
+look_up [] params last s = without_out s
+look_up (r ∷ rows) params last s = if last == r.last then r.does params s else look_up rows params last s
+
 -- control characters
+abbrev pub controls : List EffectRow
+controls =
+    row 0x07 (codes "BEL") (λ params. with_out Bell) ∷
+    plain 0x08 (codes "BS") (λ s. at_column (s.state.x - 1) s) ∷
+    plain 0x09 (codes "HT") tab ∷
+    plain 0x0A (codes "LF") newline ∷
+    plain 0x0B (codes "VT") newline ∷
+    plain 0x0C (codes "FF") newline ∷
+    plain 0x0D (codes "CR") (at_column 0) ∷
+    plain 0x0E (codes "SO") (after_shift 1 true) ∷
+    plain 0x0F (codes "SI") (after_shift 0 false) ∷
+    []
+
 unfoldable pub control : ℕ → Screen → Effect
-control code s =
-    -- BEL
-    if code == 0x07 then with_out Bell s
-    -- BS
-    else if code == 0x08 then without_out (at_column (s.state.x - 1) s)
-    -- HT
-    else if code == 0x09 then without_out (tab s)
-    -- LF, VT and FF
-    else if within 0x0A 0x0C code then without_out (newline s)
-    -- CR
-    else if code == 0x0D then without_out (at_column 0 s)
-    -- SO
-    else if code == 0x0E then without_out (after_shift 1 true s)
-    -- SI
-    else if code == 0x0F then without_out (after_shift 0 false s)
-    else without_out s
+control code s = look_up controls [] code s
 
 -- escape sequences without an intermediate byte
+abbrev pub escapes : List EffectRow
+escapes =
+    plain 0x63 (codes "RIS") reset ∷
+    plain 0x44 (codes "IND") linefeed ∷
+    plain 0x45 (codes "NEL") (λ s. linefeed (at_column 0 s)) ∷
+    plain 0x48 (codes "HTS") set_stop ∷
+    plain 0x4D (codes "RI") reverse_linefeed ∷
+    row 0x5A (codes "DECID") (λ params. device_report 0) ∷
+    plain 0x37 (codes "DECSC") save ∷
+    plain 0x38 (codes "DECRC") restore ∷
+    plain 0x3E (codes "DECPNM") (with_keypad false) ∷
+    plain 0x3D (codes "DECPAM") (with_keypad true) ∷
+    []
+
 unfoldable pub plain_escape : ℕ → Screen → Effect
-plain_escape last s =
-    -- RIS, ESC c
-    if last == 0x63 then without_out (reset s)
-    -- IND, ESC D
-    else if last == 0x44 then without_out (linefeed s)
-    -- NEL, ESC E
-    else if last == 0x45 then without_out (linefeed (at_column 0 s))
-    -- HTS, ESC H
-    else if last == 0x48 then without_out (set_stop s)
-    -- RI, ESC M
-    else if last == 0x4D then without_out (reverse_linefeed s)
-    -- DECID, ESC Z
-    else if last == 0x5A then device_report 0 s
-    -- DECSC, ESC 7
-    else if last == 0x37 then without_out (save s)
-    -- DECRC, ESC 8
-    else if last == 0x38 then without_out (restore s)
-    -- DECPNM, ESC >
-    else if last == 0x3E then without_out (with_keypad false s)
-    -- DECPAM, ESC =
-    else if last == 0x3D then without_out (with_keypad true s)
-    else without_out s
+plain_escape last s = look_up escapes [] last s
 
 -- escape sequences, by the intermediate byte, which is 0 if there is none, and the final one
 unfoldable pub escape : ℕ → ℕ → Screen → Effect
@@ -71,94 +100,54 @@ escape mid last s =
     else if mid == 0x29 then without_out (with_g1 last s)
     else without_out s
 
--- a parameter by its place, from 0; one that isn't there is 0
-abbrev pub number_at : List ℕ → ℕ → ℕ
-number_at params place = slice_index params place
+-- control sequences
+abbrev pub sequences : List EffectRow
+sequences =
+    counts 0x40 (codes "ICH") insert_characters ∷
+    counts 0x41 (codes "CUU") (λ n s. cursor_to (s.state.y - n) s.state.x s) ∷
+    counts 0x42 (codes "CUD") (λ n s. cursor_to (s.state.y + n) s.state.x s) ∷
+    counts 0x43 (codes "CUF") (λ n s. cursor_to s.state.y (s.state.x + n) s) ∷
+    counts 0x44 (codes "CUB") (λ n s. cursor_to s.state.y (s.state.x - n) s) ∷
+    counts 0x45 (codes "CNL") (λ n s. cursor_to (s.state.y + n) 0 s) ∷
+    counts 0x46 (codes "CPL") (λ n s. cursor_to (s.state.y - n) 0 s) ∷
+    counts 0x47 (codes "CHA") (λ n s. cursor_to s.state.y (n - 1) s) ∷
+    takes_all 0x48 (codes "CUP") (λ params. cursor_to_in_region (count_of params - 1) (number_at params 1 - 1)) ∷
+    takes 0x4A (codes "ED") erase_display ∷
+    takes 0x4B (codes "EL") erase_line ∷
+    counts 0x4C (codes "IL") insert_lines ∷
+    counts 0x4D (codes "DL") delete_lines ∷
+    counts 0x50 (codes "DCH") delete_characters ∷
+    counts 0x58 (codes "ECH") erase_characters ∷
+    counts 0x61 (codes "HPR") (λ n s. cursor_to s.state.y (s.state.x + n) s) ∷
+    row 0x63 (codes "DA") (λ params. device_report (number_at params 0)) ∷
+    counts 0x64 (codes "VPA") (λ n s. cursor_to_in_region (n - 1) s.state.x s) ∷
+    counts 0x65 (codes "VPR") (λ n s. cursor_to (s.state.y + n) s.state.x s) ∷
+    takes_all 0x66 (codes "HVP") (λ params. cursor_to_in_region (count_of params - 1) (number_at params 1 - 1)) ∷
+    takes 0x67 (codes "TBC") clear_stops ∷
+    takes_all 0x68 (codes "SM") (each (with_mode true)) ∷
+    takes_all 0x6C (codes "RM") (each (with_mode false)) ∷
+    takes_all 0x6D (codes "SGR") after_sgr ∷
+    row 0x6E (codes "DSR") (λ params. status_report (number_at params 0)) ∷
+    row 0x71 (codes "DECLL") (λ params. lights (number_at params 0)) ∷
+    takes_all 0x72 (codes "DECSTBM") (λ params. with_region (count_of params) (number_at params 1)) ∷
+    plain 0x73 (codes "SCOSC") save ∷
+    plain 0x75 (codes "SCORC") restore ∷
+    counts 0x60 (codes "HPA") (λ n s. cursor_to s.state.y (n - 1) s) ∷
+    row 0x5D (codes "Linux") (λ params. console_setting (number_at params 0) (number_at params 1)) ∷
+    []
 
--- how often, how many or which: the first parameter, with 0 taken as 1
-abbrev pub count_of : List ℕ → ℕ
-count_of params = max 1 (number_at params 0)
-
--- control sequences, by the final byte
 unfoldable pub control_sequence : List ℕ → ℕ → Screen → Effect
-control_sequence params last s =
-    let n = count_of params in
-    let first = number_at params 0 in
-    let second = number_at params 1 in
-    let y = s.state.y in
-    let x = s.state.x in
-    -- ICH, @
-    if last == 0x40 then without_out (insert_characters n s)
-    -- CUU, A
-    else if last == 0x41 then without_out (cursor_to (y - n) x s)
-    -- CUD, B
-    else if last == 0x42 then without_out (cursor_to (y + n) x s)
-    -- CUF, C
-    else if last == 0x43 then without_out (cursor_to y (x + n) s)
-    -- CUB, D
-    else if last == 0x44 then without_out (cursor_to y (x - n) s)
-    -- CNL, E
-    else if last == 0x45 then without_out (cursor_to (y + n) 0 s)
-    -- CPL, F
-    else if last == 0x46 then without_out (cursor_to (y - n) 0 s)
-    -- CHA, G
-    else if last == 0x47 then without_out (cursor_to y (n - 1) s)
-    -- CUP, H: the second parameter too counts from 1, and 0 is 1
-    else if last == 0x48 then without_out (cursor_to_in_region (n - 1) (second - 1) s)
-    -- ED, J
-    else if last == 0x4A then without_out (erase_display first s)
-    -- EL, K
-    else if last == 0x4B then without_out (erase_line first s)
-    -- IL, L
-    else if last == 0x4C then without_out (insert_lines n s)
-    -- DL, M
-    else if last == 0x4D then without_out (delete_lines n s)
-    -- DCH, P
-    else if last == 0x50 then without_out (delete_characters n s)
-    -- ECH, X
-    else if last == 0x58 then without_out (erase_characters n s)
-    -- HPR, a
-    else if last == 0x61 then without_out (cursor_to y (x + n) s)
-    -- DA, c
-    else if last == 0x63 then device_report first s
-    -- VPA, d
-    else if last == 0x64 then without_out (cursor_to_in_region (n - 1) x s)
-    -- VPR, e
-    else if last == 0x65 then without_out (cursor_to (y + n) x s)
-    -- HVP, f
-    else if last == 0x66 then without_out (cursor_to_in_region (n - 1) (second - 1) s)
-    -- TBC, g
-    else if last == 0x67 then without_out (clear_stops first s)
-    -- SM, h
-    else if last == 0x68 then without_out (each (with_mode true) params s)
-    -- RM, l
-    else if last == 0x6C then without_out (each (with_mode false) params s)
-    -- SGR, m
-    else if last == 0x6D then without_out (after_sgr params s)
-    -- DSR, n
-    else if last == 0x6E then status_report first s
-    -- DECLL, q
-    else if last == 0x71 then lights first s
-    -- DECSTBM, r
-    else if last == 0x72 then without_out (with_region n second s)
-    -- SCOSC, s
-    else if last == 0x73 then without_out (save s)
-    -- SCORC, u
-    else if last == 0x75 then without_out (restore s)
-    -- HPA, `
-    else if last == 0x60 then without_out (cursor_to y (n - 1) s)
-    -- Linux's own, ]
-    else if last == 0x5D then console_setting first second s
-    else without_out s
+control_sequence params last s = look_up sequences params last s
 
 -- control sequences that begin with ?
+abbrev pub private_sequences : List EffectRow
+private_sequences =
+    takes_all 0x68 (codes "DECSET") (each (with_private_mode true)) ∷
+    takes_all 0x6C (codes "DECRST") (each (with_private_mode false)) ∷
+    []
+
 unfoldable pub private_sequence : List ℕ → ℕ → Screen → Effect
-private_sequence params last s =
-    -- DECSET, ? h
-    if last == 0x68 then without_out (each (with_private_mode true) params s)
-    -- DECRST, ? l
-    else if last == 0x6C then without_out (each (with_private_mode false) params s)
-    else without_out s
+private_sequence params last s = look_up private_sequences params last s
 
 -- the effect of a unit, one case for each kind
 abbrev pub effect : units.Unit → Screen → Effect

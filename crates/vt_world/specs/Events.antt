@@ -32,6 +32,7 @@ pub record Rule : Type 0 where
   pub refusals : List Refusal
   pub row : EventRow
 
+-- the rule of these tests and of this row
 abbrev pub on : List Refusal → EventRow → Rule
 on refusals row = record { refusals = refusals; row = row }
 

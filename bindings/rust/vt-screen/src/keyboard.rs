@@ -116,7 +116,7 @@ impl Keyboard {
         }
     }
 
-    /// Releases all keys that are down; none of them sends anything.
+    /// Releases the keys as if the keyboard were unplugged: none of them sends anything.
     pub fn release(&mut self) {
         unsafe { vt_sys::vt_keys_release(self.handle.get()) };
     }

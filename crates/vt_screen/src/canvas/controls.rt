@@ -7,7 +7,7 @@ use super::Canvas;
 
 impl Canvas {
     /// Applies a control character, and returns whether the bell rings.
-    #[tactic(auto, unfolding(crate::specs::Effect::control))]
+    #[tactic(auto, unfolding(crate::specs::Effect::control, crate::specs::Effect::look_up))]
     pub(crate) fn control(&mut self, code: u8) -> bool
         ensures { control code self.old ≡ record { screen = self.new; said = bell_if result } }
     {
@@ -15,7 +15,7 @@ impl Canvas {
             0x07 => return true,
             0x08 => self.backspace(),
             0x09 => self.tab(),
-            0x0A..=0x0C => self.newline(),
+            0x0A | 0x0B | 0x0C => self.newline(),
             0x0D => self.carriage_return(),
             0x0E => self.invoke(1, true),
             0x0F => self.invoke(0, false),

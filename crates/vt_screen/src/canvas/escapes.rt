@@ -28,7 +28,7 @@ impl Canvas {
     }
 
     #[inline(always)]
-    #[tactic(auto, unfolding(crate::specs::Effect::plain_escape))]
+    #[tactic(auto, unfolding(crate::specs::Effect::plain_escape, crate::specs::Effect::look_up))]
     fn plain_escape(&mut self, last: u8, outs: &mut Outs)
         requires room { length outs.old < 64 }
         ensures screen { self.new ≡ (plain_escape last self.old).screen }

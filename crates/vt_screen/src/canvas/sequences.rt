@@ -56,7 +56,7 @@ impl Canvas {
 
     /// Applies SGR of three parameters, or of five.
     #[inline(always)]
-    #[tactic(auto, unfolding(crate::specs::Effect::control_sequence))]
+    #[tactic(auto, unfolding(crate::specs::Effect::control_sequence, crate::specs::Effect::look_up))]
     pub(crate) fn dispatch_long_sgr(&mut self, longer: LongSgr, outs: &mut Outs)
         requires room { length outs.old < 64 }
         ensures screen { self.new ≡ (control_sequence (more_numbers longer) 0x6D self.old).screen }
@@ -70,7 +70,7 @@ impl Canvas {
 
     // The table of control sequences, given the first two parameters and the list of all.
     #[inline(always)]
-    #[tactic(auto, unfolding(crate::specs::Effect::control_sequence))]
+    #[tactic(auto, unfolding(crate::specs::Effect::control_sequence, crate::specs::Effect::look_up))]
     fn control_sequence(
         &mut self,
         first: u16,
@@ -125,7 +125,7 @@ impl Canvas {
     }
 
     // Applies a control sequence that begins with `?`.
-    #[tactic(auto, unfolding(crate::specs::Effect::private_sequence))]
+    #[tactic(auto, unfolding(crate::specs::Effect::private_sequence, crate::specs::Effect::look_up))]
     fn private_sequence(&mut self, params: &[u16], last: u8)
         ensures { private_sequence params.now last self.old ≡ without_out self.new }
     {

@@ -1,9 +1,9 @@
 use Rattle.example_watch.proofs.Pieces.{in_three}
-use Rattle.example_watch.specs.Words.{quoted}
+use Rattle.example_watch.specs.Words.{in_quotes}
 use Rattle.example_watch.proofs.adding.add_quoted_caller.Goals as goal
 
 pub returns : goal.returns
-unfolding quoted
+unfolding in_quotes
 returns c =
     in_three _ _ _ _ _ _ _
     c.in_ok-add.ensures

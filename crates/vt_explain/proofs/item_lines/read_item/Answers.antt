@@ -1,5 +1,6 @@
 use Rattle.std.proofs.Common.{[], sym, ◌∙◌}
-use Rattle.vt_explain.proofs.Clear.{none_next, some_next, whole_words}
+use Rattle.vt_journal.proofs.Once.{whole_words}
+use Rattle.vt_journal.proofs.Spellings.{none_next, some_next}
 use Rattle.vt_explain.proofs.Items.{item_cut, item_once}
 use Rattle.vt_explain.specs.CertText.{item_words}
 use Rattle.vt_explain.proofs.item_lines.read_item.Goals as goal

@@ -1,4 +1,5 @@
-use Rattle.vt_explain.proofs.Clear.{cut_is, no_line}
+use Rattle.vt_explain.proofs.Clear.{no_line}
+use Rattle.vt_journal.proofs.Once.{cut_is}
 use Rattle.vt_explain.proofs.Items.{line_head}
 use Rattle.vt_explain.specs.CertText.{head_words}
 use Rattle.vt_explain.proofs.parsing.read_head.Goals as goal

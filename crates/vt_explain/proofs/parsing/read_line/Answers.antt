@@ -1,4 +1,4 @@
-use Rattle.vt_explain.proofs.Clear.{cut_is}
+use Rattle.vt_journal.proofs.Once.{cut_is}
 use Rattle.vt_explain.proofs.Items.{line_item}
 use Rattle.vt_explain.specs.CertText.{item_words}
 use Rattle.vt_explain.proofs.parsing.read_line.Goals as goal

@@ -8,5 +8,5 @@ returns c =
     in_four _ _ _ _ _ _ _ _ _
     c.in_ok-add_entry_line.ensures
     c.in_ok-add_answer_line.ensures
-    c.in_ok-add_fact_lines.ensures
+    c.in_ok-add_facts.ensures
     c.in_ok-add_change.ensures

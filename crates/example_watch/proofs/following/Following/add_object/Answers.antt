@@ -7,6 +7,6 @@ unfolding entry_object
 returns c =
     in_four _ _ _ _ _ _ _ _ _
     c.in_ok-add_entry_members.ensures
-    c.in_ok-add_did.ensures
-    c.in_ok-add_state_members.ensures
+    c.in_ok-add_facts.ensures
+    c.in_ok-add_state.ensures
     c.in_ok-add.ensures

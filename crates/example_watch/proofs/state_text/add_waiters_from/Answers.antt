@@ -1,0 +1,13 @@
+use Rattle.std.proofs.Common.{◌++◌}
+use Rattle.example_watch.proofs.Going.{text_more}
+use Rattle.example_watch.proofs.Pieces.{in_two}
+use Rattle.example_watch.specs.StateText.{separator, waiter_text}
+use Rattle.example_watch.specs.declared.waiter.Waiter.{Waiter}
+use Rattle.example_watch.proofs.state_text.add_waiters_from.Goals as goal
+
+pub loop-other-preserved : goal.loop-other-preserved
+loop-other-preserved c =
+    text_more (λ (other : Waiter). separator c.args.form ++ waiter_text c.args.form other) c.args.others.now
+    c.loop-other.other-index c.other-item.result c.loop-other.text.bytes c.add_waiter-in-loop-other.new.text.bytes _
+    c.loop-other-test.true c.other-item.is
+    (in_two _ _ _ _ _ c.in_ok-add_separator.ensures c.in_ok-add_waiter-2.ensures) c.loop-other.invariant
