@@ -1,7 +1,7 @@
--- Counts of faults: how a caller of a source or a sink sees that a call failed.
+-- Counts of faults: they show that a call of a source or a sink failed.
 use Rattle.std.specs.Prelude.{ℕ, ◌+◌, ◌-◌, ◌^◌, ◌≤◌, min, Result, OnErr}
 
--- the greatest count; it doesn't rise further
+-- the greatest count, which rises no more
 abbrev pub greatest : ℕ
 greatest = 2 ^ 64 - 1
 

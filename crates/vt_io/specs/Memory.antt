@@ -20,7 +20,7 @@ pub record SinkState : Type 0 where
 abbrev pub IsNamed : List ℕ → Type 0
 IsNamed fails = slice_index fails 0 ≢ 0
 
--- a read gives as many bytes as fit the buffer and are left, or fails if it is one of the calls that fail
+-- a read moves as many bytes as are left and the buffer has room for, or fails if the call is named
 abbrev pub Reads : {E : Type 0} → SourceState → SourceState → List ℕ → List ℕ → Result ℕ E → Type 0
 Reads old new before after result = MatchResult result
     (λ n. (slice_index old.fails 0 ≡ 0)
@@ -39,7 +39,7 @@ Reads old new before after result = MatchResult result
       faults = one_more old.faults;
     }))
 
--- a write takes as much of its piece as fits, or fails if it is one of the calls that fail or no byte fits
+-- a write takes as much of its piece as fits, or fails if the call is named or no byte fits
 abbrev pub Writes : {E : Type 0} → SinkState → SinkState → List ℕ → Result ℕ E → Type 0
 Writes old new piece result = MatchResult result
     (λ n. (slice_index old.fails 0 ≡ 0)

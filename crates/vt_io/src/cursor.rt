@@ -3,7 +3,7 @@ ghost use Rattle.std.specs.Prelude.{◌≡◌, ◌≢◌, ◌↔◌, ◌++◌, l
 use std::marker::Model;
 use vt_base::Bytes;
 
-/// Bytes that are read from their beginning.
+/// Bytes that are taken in order.
 #[derive(Drop)]
 pub(crate) struct Cursor {
     bytes: Bytes,
@@ -27,7 +27,7 @@ impl Cursor {
         Cursor { bytes, at: 0 }
     }
 
-    /// Moves the next bytes to the beginning of `buf`, as many as fit it and are left, and returns their
+    /// Moves the next bytes to the beginning of `buf`, as many as it has room for, and returns their
     /// number.
     pub(crate) fn read(&mut self, buf: &mut [u8]) -> usize
         ensures count { result ≡ min (length buf.old) (length self.old) }
@@ -50,7 +50,8 @@ impl Cursor {
     }
 }
 
-// Copies bytes from the beginning of `from` to the beginning of `to`, as many as both have.
+// Copies the first bytes of `from` over the first bytes of `to`, as many as the shorter one has, and
+// returns their number.
 pub(crate) fn copy_bytes(from: &[u8], to: &mut [u8]) -> usize
     ensures count { result ≡ min (length to.old) (length from.now) }
     ensures moved { to.new ≡ take result from.now ++ drop result to.old }

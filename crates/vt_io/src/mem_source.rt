@@ -10,8 +10,7 @@ use crate::{Failed, Source};
 use std::marker::Model;
 use vt_base::Bytes;
 
-/// A source in memory: it gives its bytes in order, and fails at the calls that were named at the
-/// start.
+/// A source in memory: its bytes are read in order, and the calls that were named at the start fail.
 #[derive(Drop)]
 pub struct MemSource {
     left: Cursor,
@@ -43,9 +42,7 @@ impl MemSource {
 }
 
 impl Source for MemSource {
-    ghost left = { λ s. Some s.left };
-
-    ghost faults = { λ s. s.faults };
+    ghost stream = { λ s. record { bytes = Some s.left; faults = s.faults } };
 
     fn read(&mut self, buf: &mut [u8]) -> Result<usize, Failed>
         ensures bound { ReadsAtMost result buf.new }

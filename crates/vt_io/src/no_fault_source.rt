@@ -35,9 +35,7 @@ impl NoFaultSource {
 }
 
 impl Source for NoFaultSource {
-    ghost left = { λ s. Some s };
-
-    ghost faults = { λ _. 0 };
+    ghost stream = { λ left. record { bytes = Some left; faults = 0 } };
 
     fn read(&mut self, buf: &mut [u8]) -> Result<usize, Failed>
         ensures bound { ReadsAtMost result buf.new }

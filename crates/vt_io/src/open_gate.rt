@@ -2,7 +2,7 @@ use crate::Gate;
 use std::sync::Wait;
 use vt_base::CallerNo;
 
-/// A gate that holds no caller up.
+/// A gate that never blocks a caller.
 #[derive(Clone, Copy)]
 pub struct OpenGate;
 

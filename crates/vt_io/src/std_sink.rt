@@ -10,7 +10,7 @@ use std::io::{ErrorKind, Write};
 use std::marker::Model;
 
 /// A sink over a writer of std. Its contract does not describe the bytes. An interrupted write is
-/// tried again as a source's read is. A write that takes no byte of a piece that isn't empty is a
+/// tried again like a read of a source. A write that takes no byte of a piece that isn't empty is a
 /// fault.
 #[derive(Drop)]
 pub struct StdSink<W> {
@@ -40,9 +40,7 @@ impl<W> StdSink<W> {
 }
 
 impl<W: Write> Sink for StdSink<W> {
-    ghost held = { λ _. None };
-
-    ghost faults = { λ count. count };
+    ghost stream = { λ count. record { bytes = None; faults = count } };
 
     fn write(&mut self, buf: &[u8]) -> Result<usize, Failed>
         ensures bound { WritesAtMost result buf.now }

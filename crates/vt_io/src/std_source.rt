@@ -47,9 +47,7 @@ impl<R> StdSource<R> {
 }
 
 impl<R: Read> Source for StdSource<R> {
-    ghost left = { λ _. None };
-
-    ghost faults = { λ count. count };
+    ghost stream = { λ count. record { bytes = None; faults = count } };
 
     fn read(&mut self, buf: &mut [u8]) -> Result<usize, Failed>
         ensures bound { ReadsAtMost result buf.new }
@@ -73,7 +71,7 @@ impl<R: Read> Source for StdSource<R> {
     }
 }
 
-// Reads a piece, and tries again after an interruption.
+// The result of a read, which is tried again if it was interrupted.
 fn read_again<R: Read>(reader: &mut R, piece: &mut [u8]) -> Option<usize>
     ensures { IfSome result (λ count. count ≤ length piece.old) }
 {

@@ -1,4 +1,4 @@
--- Where the moments of a history come from, and what stands among them.
+-- The entries that the moments of a history come from, and the moments before each.
 use Rattle.std.proofs.Common.{◌≡◌, ◌⊎◌, inl, inr, ⊎_elim, ℕ, zero, suc, ◌+◌, List, [], ◌∷◌, ◌++◌, Some, take, refl, sym, ap, ◌∙◌, subst, arith, append_assoc}
 use Rattle.std.specs.Prelude.{slice_get}
 use Rattle.std.proofs.lemmas.Option.{none-some, same_Some}
@@ -48,7 +48,7 @@ among_either hop (x ∷ xs) ys (inr more) =
     ⊎_elim (λ (left : IsAmong hop xs). inl (inr left)) (λ (right : IsAmong hop ys). inr right)
     (among_either hop xs ys more)
 
--- what stands among earlier moments stands there still behind more acts, and behind more entries
+-- a moment of a history is also one of the history with more acts, and with more entries
 stands_acts : (i : ℕ) (k : Core) (acts : List SwitchAct) (list earlier : List Moment) (m : Moment)
     → StandsBehind earlier m list → StandsBehind earlier m (with_acts i k acts list)
 stands_acts i k [] list earlier m is = is
@@ -158,7 +158,7 @@ pub allowed_at : (list earlier : List Moment) (m : Moment) (hop : Hop) → IsLaw
 allowed_at list earlier m hop lawful stands is =
     among_allowed earlier m (hops (trace m)) hop (each_at list earlier m lawful stands) is
 
--- what stands among the earlier moments of one that stands in a list stands in that list
+-- a moment before one of a list is in that list
 pub stands_deeper : (list earlier deeper : List Moment) (m old : Moment) → StandsBehind earlier m list
     → StandsBehind deeper old earlier → StandsBehind deeper old list
 stands_deeper [] earlier deeper m old stands is = absurd stands
@@ -167,7 +167,7 @@ stands_deeper (x ∷ list) earlier deeper m old (inl here) is =
 stands_deeper (x ∷ list) earlier deeper m old (inr more) is =
     inr (stands_deeper list earlier deeper m old more is)
 
--- what more holds of each cause that stands among moments
+-- a further fact of each cause among the moments
 pub since_more : (IsQuiet IsCause IsMore : Moment → Type 0) (list : List Moment)
     → ((earlier : List Moment) (m : Moment) → StandsBehind earlier m list → IsCause m → IsMore m)
     → Since IsQuiet IsCause list → Since IsQuiet IsMore list
@@ -180,7 +180,7 @@ since_more IsQuiet IsCause IsMore (m ∷ list) more (inr later) = inr (
       later.1,
 )
 
--- a moment behind acts is one of the earlier ones or one of these acts
+-- a moment after acts is one of the earlier moments or one of these acts
 from_acts : (i : ℕ) (k : Core) (acts : List SwitchAct) (list earlier : List Moment) (m : Moment)
     → StandsBehind earlier m (with_acts i k acts list)
     → StandsBehind earlier m list ⊎ ((m.entry ≡ i) × IsDone k acts m.before m.act)
@@ -227,7 +227,7 @@ from_history core entries earlier m stands = ⊎_elim
     (λ (old : StandsBehind earlier m []). absurd old)
     (λ (from : IsFrom core entries 0 m). from) (from_entries 0 core entries [] earlier m stands)
 
--- what an act tells stands in the trace of its entry
+-- the marks of an act are in the trace of its entry
 pub marks_in : (k : Core) (acts : List SwitchAct) (before : Core) (act : SwitchAct) (trace : List Mark)
     → IsDone k acts before act → TellsActs k acts trace → HasMarks (marks before act) trace
 marks_in k [] before act trace done tells = absurd done

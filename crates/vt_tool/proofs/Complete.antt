@@ -1,5 +1,4 @@
--- A run is complete: where a known command's input is there and no fault comes, the run has its
--- outcome.
+-- A run is complete: if a known command's input is offered and there is no fault, the run has its outcome.
 use Rattle.std.proofs.Common.{◌≡◌, ℕ, ◌⊎◌, inl, inr, List, ◌++◌, ◌<◌, ◌≤◌, length, Option, Some, None, sym, ap, ◌∙◌, subst, append-nil, arith, length-append, ⊎_elim}
 use Rattle.std.specs.Io.KnownBytes.{Appends, Consumes, IsAtEnd}
 use Rattle.vt_io.specs.Faults.{Rose}
@@ -37,10 +36,10 @@ taken_prefix known (Some xs) None taken is gave = absurd gave
 taken_prefix known (Some xs) (Some ys) taken is gave = (ys, (let e : known ≡ xs = cc in e) ∙ gave)
 
 -- no more bytes than offered are taken
-within_limit : (limit : ℕ) (src src' : Stream) (input taken : List ℕ) → src.told ≡ Some input
-    → length input ≤ limit → Consumes src.told src'.told taken → limit < length taken → ⊥
+within_limit : (limit : ℕ) (src src' : Stream) (input taken : List ℕ) → src.bytes ≡ Some input
+    → length input ≤ limit → Consumes src.bytes src'.bytes taken → limit < length taken → ⊥
 within_limit limit src src' input taken told fits gave past =
-    let (rest, whole) = taken_prefix input src.told src'.told taken told gave in
+    let (rest, whole) = taken_prefix input src.bytes src'.bytes taken told gave in
     omega (arith, length-append taken rest, ap length whole, past, fits)
 
 not_past : (i : Intake) (src src' : Stream) (input : List ℕ) → Offers i src input
@@ -51,7 +50,7 @@ not_past (InPieces limit) src src' input offered (taken, gave, past) =
     within_limit limit src src' input taken offered.0 offered.1 gave past
 not_past NoInput src src' input offered past = past
 
--- what was read to the end is what was offered
+-- the input that was read to the end is the one that was offered
 whole_input : (known input : List ℕ) (told told' : Option (List ℕ)) → told ≡ Some known
     → Consumes told told' input → IsAtEnd told' → input ≡ known
 whole_input known input None told' is gave end =
@@ -64,12 +63,12 @@ whole_input known input (Some xs) (Some ys) is gave end =
 read_offered : (i : Intake) (src src' : Stream) (known input : List ℕ) → Offers i src known
     → ReadsAll i src src' input → input ≡ known
 read_offered (ToEnd limit) src src' known input offered read =
-    whole_input known input src.told src'.told offered.0 read.0 read.1
+    whole_input known input src.bytes src'.bytes offered.0 read.0 read.1
 read_offered (InPieces limit) src src' known input offered read =
-    whole_input known input src.told src'.told offered.0 read.0 read.1
+    whole_input known input src.bytes src'.bytes offered.0 read.0 read.1
 read_offered NoInput src src' known input offered read = read.1 ∙ sym offered
 
--- where err had no fault, the status is the first one
+-- if err had no fault, the status is the first one
 tells_first : (first : Status) (err err' : Stream) (status : Status)
     → ¬ Rose err.faults err'.faults → Tells first err err' status → status ≡ first
 tells_first first err err' status none tells =
@@ -84,7 +83,7 @@ module _ (known : List Form) (words : List (List ℕ)) (src src' out out' : Stre
     abbrev HasOutcome : Type 0
     HasOutcome =
         (outcome : Outcome) × Gives command input outcome × (status ≡ outcome.status)
-        × Appends out.told out'.told outcome.text
+        × Appends out.bytes out'.bytes outcome.text
 
     answered : (other : Command) (first : Status) → status ≡ first
         → command_of known words ≡ Some other → Answers other src src' out out' first → HasOutcome

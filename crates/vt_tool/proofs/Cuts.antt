@@ -1,4 +1,4 @@
--- Where an input is cut.
+-- The place at which an input is cut.
 use Rattle.std.proofs.Common.{refl, ◌≡◌, ℕ, ◌<◌, ◌≤◌, ◌-◌, inl, inr, List, [], length, take, drop, sym, ap, ◌∙◌, subst, arith, length-append, length-drop, length-take, take_all, ⊎_elim}
 use Rattle.std.proofs.Math.Seq.{take-append_seam, drop-append_seam}
 use Rattle.std.proofs.lemmas.Bool.{cases_lt}
@@ -17,14 +17,14 @@ some mark.Journal text (version, has) =
     first version = grind arith
 some mark.Certificate text (rest, is) = omega (arith, ap length is, length-append cert_mark rest)
 
--- no mark stands at a place before this one
+-- no mark is at a place before this one
 abbrev pub NoneBefore : CutMark → List ℕ → ℕ → Type 0
 NoneBefore what input at =
     (k : ℕ) → k < at → ¬ IsMarked what input (take k input) (drop k input)
 
 module _ (what : CutMark)
   where
-    -- the place where the mark stands decides what is before it and after it
+    -- the place of the mark determines the text before it and after it
     taken : (input text after : List ℕ) → IsMarked what input text after
         → text ≡ take (length text) input
     taken input text after has =
@@ -35,7 +35,7 @@ module _ (what : CutMark)
     left input text after has =
         sym (ap (drop (length text)) has.parts ∙ drop-append_seam text after)
 
-    -- so one that stands somewhere stands there or behind
+    -- so a mark is at that place or after it
     pub at_least : (input : List ℕ) (at : ℕ) → NoneBefore what input at → (text after : List ℕ)
         → IsMarked what input text after → at ≤ length text
     at_least input at none text after has = ⊎_elim
@@ -46,7 +46,7 @@ module _ (what : CutMark)
         (λ not. not)
         (cases_lt (length text) at)
 
-    -- and none stands at the end
+    -- and none is at the end
     within : (input text after : List ℕ) → IsMarked what input text after → length text < length input
     within input text after has =
         omega (arith, ap length has.parts, length-append text after, some what after has.first)
@@ -71,7 +71,7 @@ module _ (what : CutMark)
     one_cut input a b c d (inr x) (inl y) = absurd (x.none c d y.has)
     one_cut input a b c d (inr x) (inr y) = (x.all ∙ sym y.all, x.nothing ∙ sym y.nothing)
 
-    -- what the code finds is where the input is cut
+    -- the input is cut at the place that the code finds
     pub cut_here : (input : List ℕ) (at : ℕ) → at < length input → NoneBefore what input at
         → IsMarked what input (take at input) (drop at input)
         → IsCut what input (take at input) (take (length input - at) (drop at input))
@@ -93,7 +93,7 @@ module _ (what : CutMark)
       nothing = refl;
     })
 
-    -- a mark stands at a place where a line begins and the text goes on with it
+    -- a mark is at a place if a line begins there and the text goes on with the mark
     pub mark_here : (input front after : List ℕ) (at : ℕ) → front ≡ take at input
         → after ≡ drop at input → BeginsLine front → HasMark what after
         → IsMarked what input (take at input) (drop at input)
@@ -103,7 +103,7 @@ module _ (what : CutMark)
       first = subst (HasMark what) backs is;
     }
 
-    -- and it doesn't where the text doesn't go on with it
+    -- and is not if the text goes on otherwise
     pub no_mark : (input after : List ℕ) (at : ℕ) → after ≡ drop at input → ¬ HasMark what after
         → ¬ IsMarked what input (take at input) (drop at input)
     no_mark input after at backs none has = none (subst (HasMark what) (sym backs) has.first)

@@ -49,7 +49,7 @@ entry_of_acts w (first ∷ entries) (suc k) acts is =
     entry_of_acts (step w first.caller first.event).world entries k acts is in
     record { entry = found.entry; is = found.is; are = found.are }
 
--- what acts leave of the display is what the entries leave
+-- the state of the display after the acts is that after the entries
 core_of : ActsMakeCores → (w : WorldState) (entries : List Entry) (k : ℕ)
     → after_entries (core w) (take k (history_acts w entries)) ≡ core (replay w (take k entries))
 core_of cores w entries zero = refl

@@ -1,4 +1,4 @@
--- A run that printed a journal tells that its history keeps the display law.
+-- If a run printed a journal, its history keeps the display law.
 use Rattle.std.proofs.Common.{◌≡◌, ℕ, List, Some, ap, subst, ⊎_elim}
 use Rattle.std.specs.Io.KnownBytes.{Appends}
 use Rattle.session_order.specs.Sessions.{start_of}
@@ -43,7 +43,7 @@ module _ (cores : ActsMakeCores) (calls : ActsAreCalls) (tells : TracesTellActs)
 
     shows : (asked : Command) → PrintsJournal asked → (input text : List ℕ) (status : Status)
         (out out' : Stream) → HasJournal status → Gives asked input (outcome status text)
-        → Appends out.told out'.told text → ShowsDisplays input out out'
+        → Appends out.bytes out'.bytes text → ShowsDisplays input out out'
     shows command.Play prints input text status out out' whole gives written = ⊎_elim
         (λ given. record {
           value = given.value;
@@ -52,7 +52,9 @@ module _ (cores : ActsMakeCores) (calls : ActsAreCalls) (tells : TracesTellActs)
           is = given.is;
           history = given.played.history;
           end = tail_at given.played.history given.played.stop;
-          written = subst (Appends out.told out'.told) given.played.printed.text written;
+          written =
+              subst (Appends out.bytes out'.bytes)
+              (ap (λ (o : Outcome). o.text) given.played.printed) written;
           legal = given.played.right.legal;
           law =
               right_keeps given.session given.played.history
@@ -67,7 +69,9 @@ module _ (cores : ActsMakeCores) (calls : ActsAreCalls) (tells : TracesTellActs)
           is = given.is;
           history = given.raced.history;
           end = tail_at given.raced.history given.raced.stop;
-          written = subst (Appends out.told out'.told) given.raced.printed.text written;
+          written =
+              subst (Appends out.bytes out'.bytes)
+              (ap (λ (o : Outcome). o.text) given.raced.printed) written;
           legal = given.raced.right.legal;
           law =
               right_keeps given.session given.raced.history
@@ -125,7 +129,7 @@ module _ (cores : ActsMakeCores) (calls : ActsAreCalls) (tells : TracesTellActs)
         begun-shows TooLong whole begins = absurd whole
         begun-shows (Illegal index why) whole begins = absurd whole
 
-    -- a run that printed a journal tells its displays
+    -- if a run printed a journal, its history keeps the display law
     pub tells_displays : (known : List Form) (words : List (List ℕ)) (old new : Streams)
         (status : Status) → ProgramRun known words old new status
         → TellsDisplays known words old new status

@@ -13,17 +13,14 @@ use Rattle.vt_tool.proofs.Once.{err_once, none_or_some, ok_once, ok_or_err, some
 use Rattle.vt_tool.specs.Commands.Dump.{GivesDump}
 use Rattle.vt_tool.specs.Commands.Keys.{GivesKeyFault, GivesListing, HasKeyFault}
 use Rattle.vt_tool.specs.Commands.Typing.{GivesTableFault, GivesTyped, TypeTable, type_table_of, typed_text}
-use Rattle.vt_tool.specs.Outcome.{Outcome}
+use Rattle.vt_tool.specs.Outcome.{Outcome, fine_text, no_text}
 use Rattle.vt_tool.specs.declared.status.Status.TheVariants as status
 
-abbrev written : List ℕ → Outcome
-written text = record { status = status.Fine; text = text }
-
 abbrev refused : KeyFault → Outcome
-refused fault = record { status = status.Refused fault.kind fault.line fault.column; text = [] }
+refused fault = no_text (status.Refused fault.kind fault.line fault.column)
 
 abbrev refused_table : TableFault → Outcome
-refused_table fault = record { status = status.Refused fault.kind fault.part fault.item; text = [] }
+refused_table fault = no_text (status.Refused fault.kind fault.part fault.item)
 
 -- a text of the tables of a keymap text without a fault
 pub record IsOfTables (text_of : Tables → List ℕ) (input : List ℕ) (outcome : Outcome) : Type 0 where
@@ -32,7 +29,7 @@ pub record IsOfTables (text_of : Tables → List ℕ) (input : List ℕ) (outcom
   pub read : lines_of [] input ≡ Ok lines
   pub fine : compile_fault lines ≡ None
   pub compiled : AreTablesOf lines tables
-  pub is : outcome ≡ written (text_of tables)
+  pub is : outcome ≡ fine_text (text_of tables)
 
 of_listing : (input : List ℕ) (a : Outcome) → GivesListing input a → IsOfTables listing_of input a
 of_listing input a x = record {
@@ -81,7 +78,7 @@ module _ (one_value : OneValue) (text_of : Tables → List ℕ)
         → IsOfTables text_of input b → a ≡ b
     one-text input a b x y =
         x.is
-        ∙ ap (λ (t : Tables). written (text_of t))
+        ∙ ap (λ (t : Tables). fine_text (text_of t))
         (same_tables one_value x.lines y.lines x.tables y.tables
         (ok_once (lines_of [] input) x.lines y.lines x.read y.read) x.compiled y.compiled)
         ∙ sym y.is
@@ -117,8 +114,8 @@ both_typed one_value input a b x y =
     same_tables one_value x.table.lines y.table.lines x.tables y.tables
     (ap (λ (t : TypeTable). t.lines) table) x.compiled y.compiled in
     x.written
-    ∙ ap (λ (t : TypeTable). written (typed_text x.tables t.mode t.keys)) table
-    ∙ ap (λ (t : Tables). written (typed_text t y.table.mode y.table.keys)) tables
+    ∙ ap (λ (t : TypeTable). fine_text (typed_text x.tables t.mode t.keys)) table
+    ∙ ap (λ (t : Tables). fine_text (typed_text t y.table.mode y.table.keys)) tables
     ∙ sym y.written
 
 pub one_typed : OneValue → (input : List ℕ) (a b : Outcome) → GivesTyped input a ⊎ GivesTableFault input a

@@ -1,4 +1,4 @@
--- What a call makes of the commands that it knows.
+-- The run of a command that a call knows.
 use Rattle.std.proofs.Common.{◌≡◌, ℕ, List, Some, sym, ◌∙◌}
 use Rattle.vt_io.specs.Stream.{Stream}
 use Rattle.vt_tool.specs.Run.{Begins, Holds, ProgramRun, Streams}
@@ -7,7 +7,7 @@ use Rattle.vt_tool.specs.declared.command.Command.{Command}
 use Rattle.vt_tool.specs.declared.status.Status.{Status}
 use Rattle.vt_tool.specs.declared.status.Status.TheVariants.{Usage}
 
--- where the words spell a command, what holds of it begins the run
+-- if the words spell a command, the facts of its status begin the run
 pub begun : (known : List Form) (words : List (List ℕ)) (command : Command) (src src' out out' : Stream)
     (first : Status) → command_of known words ≡ Some command
     → Holds command src src' out out' first → Begins known words src src' out out' first

@@ -1,5 +1,4 @@
 mod Causes
-mod Checks
 mod Complete
 mod Cuts
 mod Displays

@@ -1,4 +1,4 @@
--- What is made of what is answered on a journal.
+-- The outcomes of the reviews and explanations of a journal.
 use Rattle.std.proofs.Common.{◌≡◌, ◌≢◌, ℕ, List, [], ◌∷◌, ap, ◌∙◌}
 use Rattle.session_order.specs.Sessions.{setup_of, start_of}
 use Rattle.session_text.specs.Sessions.{SessionView}
@@ -17,23 +17,23 @@ use Rattle.vt_review.specs.declared.reviewed.Reviewed.{Reviewed}
 use Rattle.vt_review.specs.declared.reviewed.Reviewed.TheVariants as reviewed
 use Rattle.vt_tool.specs.Commands.Explain.{IsExplained}
 use Rattle.vt_tool.specs.Commands.Review.{IsReviewed}
-use Rattle.vt_tool.specs.Commands.Judged.{no_text, judged_text}
-use Rattle.vt_tool.specs.Outcome.{Outcome}
+use Rattle.vt_tool.specs.Commands.Judged.{judged_text}
+use Rattle.vt_tool.specs.Outcome.{Outcome, fine_text, no_text}
 use Rattle.vt_tool.specs.declared.status.Status.TheVariants as status
 use Rattle.vt_world.specs.Laws.{moments}
 
--- what is told of a review, and of an explanation
-abbrev pub review_told : Reviewed → Outcome
-review_told (reviewed.Text text) = record { status = status.Fine; text = text.bytes }
-review_told (reviewed.Illegal index why) = no_text (status.Illegal index why)
+-- the outcomes of a review and of an explanation
+abbrev pub review_outcome : Reviewed → Outcome
+review_outcome (reviewed.Text text) = fine_text text.bytes
+review_outcome (reviewed.Illegal index why) = no_text (status.Illegal index why)
 
-abbrev pub explained_told : Explained → Outcome
-explained_told (explained.Cert c) = record { status = status.Fine; text = cert_text c.items }
-explained_told (explained.Illegal index why) = no_text (status.Illegal index why)
+abbrev pub explain_outcome : Explained → Outcome
+explain_outcome (explained.Cert c) = fine_text (cert_text c.items)
+explain_outcome (explained.Illegal index why) = no_text (status.Illegal index why)
 
 pub made_review : (ear : EarTable) (s : SessionView) (j : Journal) (ears : List EarTable) (r : Reviewed)
     (o : Outcome) → ears ≡ ear ∷ [] → Judges (setup_of s) j.entries j.tail (reviewed_verdict r)
-    → TellsHistory s j ears r → o ≡ review_told r → IsReviewed ear s j o
+    → TellsHistory s j ears r → o ≡ review_outcome r → IsReviewed ear s j o
 made_review ear s j ears (reviewed.Text text) o same judged tells is = record {
   verdict = verdict.Legal;
   judged = judged;
@@ -49,7 +49,7 @@ never_legal index why clash = let impossible : ⊥ = cc in impossible
 
 pub made_explained : (s : SessionView) (j : Journal) (x : Explained) (o : Outcome)
     → Judges (setup_of s) j.entries j.tail (verdict_of x)
-    → IfCert x (IsCertificate (moments (start_of s) j.entries)) → o ≡ explained_told x → IsExplained s j o
+    → IfCert x (IsCertificate (moments (start_of s) j.entries)) → o ≡ explain_outcome x → IsExplained s j o
 made_explained s j (explained.Cert c) o judged cert is = record {
   verdict = verdict.Legal;
   judged = judged;

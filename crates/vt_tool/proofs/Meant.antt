@@ -1,4 +1,4 @@
--- What is printed of a history goes by its entries as they are meant.
+-- The printed text of a history depends on the plain form of its entries alone.
 use Rattle.std.proofs.Common.{refl, ◌≡◌, ℕ, ◌+◌, List, [], ◌∷◌, ◌++◌, codes, decimal, length, map, Option, Some, None, ap, ◌∙◌}
 use Rattle.std.proofs.lemmas.List.{length-map}
 use Rattle.std.proofs.lemmas.List.Folds.{fold-map}
@@ -57,7 +57,7 @@ pub tail_meant : (entries : List Entry) (stop : Option Full)
 tail_meant entries None = λ i. tail.End (length-map entries plain_entry i) (charges_meant entries i)
 tail_meant entries (Some full) = refl
 
--- the journal of a history that stops there, and the console after it
+-- the journal of a history with this stop, and the machine after it
 abbrev pub run_text : WorldState → List Entry → Option Full → List ℕ
 run_text start history stop = journal_text 2 history (tail_at history stop) ++ final_text (replay start history)
 

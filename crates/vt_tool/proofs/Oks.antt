@@ -1,15 +1,9 @@
--- What holds of a result that isn't an error.
+-- Facts of a result that isn't an error.
 use Rattle.std.proofs.Common.{Result, Ok, Err}
 use Rattle.std.specs.Prelude.{IfOk}
 
--- what follows from that holds too
+-- a fact that follows from another
 pub ok_more : {A E : Type 0} (P Q : A → Type 0) (r : Result A E) → ((a : A) → P a → Q a) → IfOk r P
     → IfOk r Q
 ok_more P Q (Ok a) more holds = more a holds
 ok_more P Q (Err e) more holds = tt
-
--- and what follows from two facts
-pub ok_both : {A E : Type 0} (P Q R : A → Type 0) (r : Result A E) → ((a : A) → P a → Q a → R a)
-    → IfOk r P → IfOk r Q → IfOk r R
-ok_both P Q R (Ok a) both one other = both a one other
-ok_both P Q R (Err e) both one other = tt

@@ -31,7 +31,7 @@ use Rattle.vt_tool.specs.declared.commands.cut.CutMark.TheVariants as mark
 use Rattle.vt_world.specs.Laws.{moments}
 use Rattle.vt_world.specs.State.{WorldState}
 
--- what is made of a journal is one outcome, wherever sessions begin alike
+-- a journal has one outcome in sessions that begin alike
 abbrev pub OneMade : JudgeRequest → Type 0
 OneMade asked =
     (cert : List ℕ) (s t : SessionView) (j : Journal) (a b : Outcome) → setup_of s ≡ setup_of t
@@ -61,7 +61,7 @@ one_reviewed one_verdict kinds console cert s t j a b same x y =
     (same_verdict one_verdict s t j x.verdict y.verdict same x.judged y.judged)
     ∙ sym y.is
 
--- the certificate counts where the journal is legal
+-- the certificate is one if the journal is legal
 same_told : OneCertificate → (start start' : WorldState) (entries : List Entry) (c d : List HopWhy)
     (v : Verdict) → start ≡ start'
     → (v ≡ Legal → IsCertificate (moments start entries) c)
@@ -104,13 +104,13 @@ one_accepted one_acceptance one_cert (b ∷ more) s t j a c same (said, says, co
     (subst (λ (r : Result (List HopWhy) ℕ). ComesOfCert r s j a)
     (one_cert (b ∷ more) said said' says says') comes) comes'
 
--- what is after a session is parted in one way
-one_parted : (what : JudgeRequest) (behind a b c d : List ℕ) → IsParted what behind a b
-    → IsParted what behind c d → (a ≡ c) × (b ≡ d)
-one_parted asked.Acceptance behind a b c d x y = one_cut mark.Certificate behind a b c d x y
-one_parted asked.Verdict behind a b c d x y = (x.0 ∙ sym y.0, x.1 ∙ sym y.1)
-one_parted (asked.Review kinds console) behind a b c d x y = (x.0 ∙ sym y.0, x.1 ∙ sym y.1)
-one_parted asked.Explanation behind a b c d x y = (x.0 ∙ sym y.0, x.1 ∙ sym y.1)
+-- the text after a session is split in one way
+one_parted : (what : JudgeRequest) (after a b c d : List ℕ) → IsParted what after a b
+    → IsParted what after c d → (a ≡ c) × (b ≡ d)
+one_parted asked.Acceptance after a b c d x y = one_cut mark.Certificate after a b c d x y
+one_parted asked.Verdict after a b c d x y = (x.0 ∙ sym y.0, x.1 ∙ sym y.1)
+one_parted (asked.Review kinds console) after a b c d x y = (x.0 ∙ sym y.0, x.1 ∙ sym y.1)
+one_parted asked.Explanation after a b c d x y = (x.0 ∙ sym y.0, x.1 ∙ sym y.1)
 
 module _ (one_session : OneSession) (one_value : OneValue) (one_journal : OneJournal) (what : JudgeRequest)
     (one_made : OneMade what)
@@ -120,11 +120,11 @@ module _ (one_session : OneSession) (one_value : OneValue) (one_journal : OneJou
     one-comes cert s t (Ok j) a b same x y = one_made cert s t j a b same x y
     one-comes cert s t (Err fault) a b same x y = x ∙ sym y
 
-    one-read : (s t : SessionView) (behind : List ℕ) (a b : Outcome) → setup_of s ≡ setup_of t
-        → IsReadAs what s behind a → IsReadAs what t behind b → a ≡ b
-    one-read s t behind a b same x y =
+    one-read : (s t : SessionView) (after : List ℕ) (a b : Outcome) → setup_of s ≡ setup_of t
+        → IsReadAs what s after a → IsReadAs what t after b → a ≡ b
+    one-read s t after a b same x y =
         let (journals, certs) =
-        one_parted what behind x.journal x.cert y.journal y.cert x.parted y.parted in
+        one_parted what after x.journal x.cert y.journal y.cert x.parted y.parted in
         let reads : x.read ≡ y.read =
         one_journal y.journal x.read y.read
         (subst (λ (text : List ℕ). JournalSays text x.read) journals x.says) y.says in
@@ -132,7 +132,7 @@ module _ (one_session : OneSession) (one_value : OneValue) (one_journal : OneJou
         (subst (λ (cert : List ℕ). ComesOf what cert s y.read a) certs
         (subst (λ (r : Result Journal JFault). ComesOf what x.cert s r a) reads x.comes)) y.comes
 
-    -- what the text of a session says decides the rest
+    -- the text of a session determines the rest
     one-said : (x y : List ℕ) → x ≡ y → (p q : Result SessionValue TableFault) → session_says x p
         → session_says y q → p ≡ q
     one-said x y same p q said said' =
@@ -142,20 +142,20 @@ module _ (one_session : OneSession) (one_value : OneValue) (one_journal : OneJou
         → a ≡ b
     both-made input a b x y =
         let (texts, afters) =
-        one_cut mark.Journal input x.text x.behind y.text y.behind x.cut y.cut in
+        one_cut mark.Journal input x.text x.after y.text y.after x.cut y.cut in
         let oks : Ok x.value ≡ Ok y.value =
         one-said x.text y.text texts (Ok x.value) (Ok y.value) x.said y.said in
         let values : x.value ≡ y.value = cc in
         let is : IsSessionOf x.session y.value =
         subst (λ (v : SessionValue). IsSessionOf x.session v) values x.is in
-        one-read x.session y.session y.behind a b
+        one-read x.session y.session y.after a b
         (one_setup one_value y.value x.session y.session is y.is)
         (subst (λ (j : List ℕ). IsReadAs what x.session j a) afters x.read) y.read
 
     not-both : (input : List ℕ) (a b : Outcome) → GivesMade what input a → GivesFaultBefore input b → ⊥
     not-both input a b x y =
         let (texts, afters) =
-        one_cut mark.Journal input x.text x.behind y.text y.behind x.cut y.cut in
+        one_cut mark.Journal input x.text x.after y.text y.after x.cut y.cut in
         let clash : Ok x.value ≡ Err y.refused.fault =
         one-said x.text y.text texts (Ok x.value) (Err y.refused.fault) x.said y.refused.found in
         let impossible : ⊥ = cc in
@@ -165,7 +165,7 @@ module _ (one_session : OneSession) (one_value : OneValue) (one_journal : OneJou
         → GivesFaultBefore input b → a ≡ b
     both-refused input a b x y =
         let (texts, afters) =
-        one_cut mark.Journal input x.text x.behind y.text y.behind x.cut y.cut in
+        one_cut mark.Journal input x.text x.after y.text y.after x.cut y.cut in
         let errs : Err x.refused.fault ≡ Err y.refused.fault =
         one-said x.text y.text texts (Err x.refused.fault) (Err y.refused.fault) x.refused.found
         y.refused.found in

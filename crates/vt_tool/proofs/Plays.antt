@@ -8,6 +8,7 @@ use Rattle.session_order.specs.Meant.{ReplayIsMeant, plain_history}
 use Rattle.session_order.specs.Serial.{IsSerial, Played}
 use Rattle.session_order.specs.Sessions.{setup_of, start_of}
 use Rattle.session_run.specs.Drill.{IsDrill}
+use Rattle.session_run.specs.Final.{final_text}
 use Rattle.session_text.specs.Sessions.{IsSessionOf, OneSession, SessionValue, SessionView, session_says}
 use Rattle.table_fields.specs.Fields.{keymap_of}
 use Rattle.vt_events.specs.declared.entry.Entry.{Entry}
@@ -18,7 +19,7 @@ use Rattle.vt_tool.proofs.Once.{ok_once}
 use Rattle.vt_tool.proofs.Setups.{alike_setup, one_setup, one_start}
 use Rattle.vt_tool.specs.Commands.Drill.{GivesDrill, drill_text}
 use Rattle.vt_tool.specs.Commands.Play.{GivesPlayed}
-use Rattle.vt_tool.specs.Commands.Session.{GivesSessionFault, IsPrinted, status_of}
+use Rattle.vt_tool.specs.Commands.Session.{GivesSessionFault, IsPrinted, run_outcome, status_of}
 use Rattle.vt_tool.specs.Laws.{RaceMayPlay, RunDecides}
 use Rattle.vt_tool.specs.Outcome.{Outcome}
 use Rattle.vt_world.specs.History.{replay}
@@ -27,7 +28,7 @@ use Rattle.vt_world.specs.State.{WorldState}
 same_outcome : (a b : Outcome) → a.status ≡ b.status → a.text ≡ b.text → a ≡ b
 same_outcome a b p q = λ i. record { status = p i; text = q i }
 
--- a history as it is meant, and where it stopped
+-- the plain form of a history, and its stop
 abbrev played : List Entry → Option Full → Played
 played history stop = record { history = plain_history history; stop = stop }
 
@@ -66,11 +67,14 @@ module _ (replay_meant : ReplayIsMeant) (start start' : WorldState) (starts : st
 -- one run is printed in one way
 same_printed : ReplayIsMeant → (s t : SessionView) → start_of s ≡ start_of t → (h k : List Entry)
     (p q : Option Full) → IsSameRun h k p q → (a b : Outcome)
-    → IsPrinted s h (tail_at h p) a.status a.text → IsPrinted t k (tail_at k q) b.status b.text → a ≡ b
+    → IsPrinted s h (tail_at h p) a → IsPrinted t k (tail_at k q) b → a ≡ b
 same_printed replay_meant s t starts h k p q same a b x y =
-    same_outcome a b
-    (x.status_is ∙ same_status h k p q same ∙ sym y.status_is)
-    (x.text ∙ same_text replay_meant (start_of s) (start_of t) starts h k p q same ∙ sym y.text)
+    x
+    ∙ same_outcome (run_outcome h (tail_at h p) (final_text (replay (start_of s) h)))
+    (run_outcome k (tail_at k q) (final_text (replay (start_of t) k)))
+    (same_status h k p q same)
+    (same_text replay_meant (start_of s) (start_of t) starts h k p q same)
+    ∙ sym y
 
 -- the serial schedule has one run
 same_run : SerialIsOne → (o o' : Setup) (first first' : List ℕ) (h k : List Entry) (p q : Option Full)
@@ -108,7 +112,7 @@ module _ (one_session : OneSession) (input : List ℕ)
         let yours = y.refused in
         cc
 
-    -- sessions that an input says begin alike
+    -- the sessions of one input begin alike
     pub same_setup : OneValue → (v w : SessionValue) (s t : SessionView) → session_says input (Ok v)
         → session_says input (Ok w) → IsSessionOf s v → IsSessionOf t w → setup_of s ≡ setup_of t
     same_setup one_value v w s t said said' is is' =

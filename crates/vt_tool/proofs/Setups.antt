@@ -22,7 +22,7 @@ limits_of events bytes = record { events = events; bytes = bytes }
 abbrev setup : WorldState → List Program → Limits → Setup
 setup start programs limits = record { start = start; programs = programs; limits = limits }
 
--- all that a session is, but for its turns
+-- all parts of a session except its turns
 pub record AreAlike (s t : SessionView) : Type 0 where
   pub rows : s.config.size.rows ≡ t.config.size.rows
   pub cols : s.config.size.cols ≡ t.config.size.cols

@@ -1,4 +1,4 @@
--- What scan bytes say, one after another.
+-- The output of scan bytes, one after another.
 use Rattle.std.proofs.Common.{◌≡◌, ◌<◌, ℕ, ◌+◌, List, [], ◌∷◌, ◌++◌, length, take, drop, get_or, Some, None, refl, sym, ap, ◌∙◌, append_assoc, append-nil}
 use Rattle.std.proofs.lemmas.List.{drop_more, take_more}
 use Rattle.std.specs.Prelude.{option_to_list}
@@ -9,7 +9,7 @@ use Rattle.scan_codes.specs.declared.key_event.KeyEvent.{KeyEvent}
 use Rattle.vt_tool.specs.Commands.Typing.{Typing, after_typing, lines_after, said_after, start_typing, typing_step, typed_line, typed_on, make_typing}
 use Rattle.vt_tool.specs.Commands.Typed.{HasTyped, TypistView}
 
--- one byte more is kept after what was
+-- one more byte is kept after the others
 pub rest_more : (before bytes : List ℕ) (b : ℕ)
     → rest before (bytes ++ b ∷ []) ≡ bytes_after (rest before bytes) b
 rest_more before [] b = refl

@@ -9,10 +9,10 @@ use Rattle.vt_journal.specs.declared.journal.Journal.{Journal}
 use Rattle.vt_tool.proofs.Upgrades.{first_line}
 use Rattle.vt_tool.specs.Commands.Judging.{column_of}
 use Rattle.vt_tool.specs.Commands.Upgrade.{GivesUpgraded, IsNewer, IsNoJournal, IsUpgraded}
-use Rattle.vt_tool.specs.Outcome.{Outcome}
+use Rattle.vt_tool.specs.Outcome.{Outcome, fine_text, no_text}
 use Rattle.vt_tool.specs.declared.status.Status.TheVariants as status
 
--- a first line, its digit told
+-- a first line, with its digit
 first_is : (version : ℕ) → version < 10
     → line_text (first_words version) ≡ codes "%journal " ++ (48 + version) ∷ 0x0A ∷ []
 first_is version few = ap (λ digits. codes "%journal " ++ (digits ++ 0x0A ∷ [])) (decimal_digit version few)
@@ -28,10 +28,10 @@ one_version text x y =
     omega (arith, digits)
 
 abbrev printed : Journal → Outcome
-printed j = record { status = status.Fine; text = journal_text 2 j.entries j.tail }
+printed j = fine_text (journal_text 2 j.entries j.tail)
 
 abbrev refused : JFault → Outcome
-refused fault = record { status = status.Refused fault.kind fault.line (column_of fault.line); text = [] }
+refused fault = no_text (status.Refused fault.kind fault.line (column_of fault.line))
 
 module _ (one_journal : OneJournal) (input : List ℕ) (a b : Outcome)
   where

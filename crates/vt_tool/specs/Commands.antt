@@ -1,6 +1,6 @@
--- The commands: their words, what they read, and what they give (docs/PROGRAM.md). A new command has a
--- row in the list of names and a case of Gives; where it has numbers, or reads in a way of its own, it
--- also has a case of IsFit or of intake_of.
+-- The commands: their words, their inputs and their outcomes (docs/PROGRAM.md). A new command has a row in the
+-- list of names and a case of Gives; if it has numbers, or reads in a way of its own, it also has a case of
+-- IsFit or of intake_of.
 use Rattle.std.specs.Prelude.{ℕ, List, [], ◌∷◌, ◌++◌, ◌⊎◌, codes, ⊤}
 use Rattle.vt_tool.specs.Outcome.{Outcome}
 use Rattle.vt_tool.specs.Words.{Form, Rest, alone, form, with_two}
@@ -42,7 +42,7 @@ pub mod Typed
 pub mod Typing
 pub mod Upgrade
 
--- what stands after the names of the commands with numbers
+-- the words after the names of the commands with numbers
 abbrev pub rest_of : NumberedForm → Rest
 rest_of two.Screen = with_two side side command.Screen
 rest_of two.Drill = with_two items_each seeds command.Drill
@@ -94,17 +94,17 @@ IsFit (command.Drill n seed) = IsDrillSize n
 IsFit (command.Review kinds console) = IsEar kinds console
 IsFit other = ⊤
 
--- the most bytes of input that a command reads, where it has no limit of its own; this project's own
+-- the most bytes of input that a command reads, if it has no limit of its own; this project's own
 abbrev pub text_limit : ℕ
 text_limit = 16777216
 
--- how much of the source a command reads
+-- the part of the source that a command reads
 abbrev pub intake_of : Command → Intake
 intake_of (command.Screen rows cols) = InPieces screen_limit
 intake_of (command.Drill n seed) = NoInput
 intake_of other = ToEnd text_limit
 
--- the outcome that a command gives for an input
+-- the outcome of a command for an input
 abbrev pub Gives : Command → List ℕ → Outcome → Type 0
 Gives (command.Screen rows cols) input outcome = GivesRows rows cols input outcome
 Gives command.Keys input outcome = GivesListing input outcome ⊎ GivesKeyFault input outcome

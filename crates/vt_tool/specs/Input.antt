@@ -1,5 +1,5 @@
--- What is read of the source: one case for each way of reading. docs/PROGRAM.md, "Order" and "The
--- source".
+-- The bytes that are read from the source: one case for each way of reading. docs/PROGRAM.md, "Order" and
+-- "Standard input".
 use Rattle.std.specs.Prelude.{◌≡◌, ℕ, ◌<◌, ◌≤◌, List, [], length, Some}
 use Rattle.std.specs.Io.KnownBytes.{Consumes, IsAtEnd}
 use Rattle.vt_io.specs.Faults.{Rose}
@@ -13,16 +13,16 @@ IsWithin (ToEnd limit) input = length input ≤ limit
 IsWithin (InPieces limit) input = length input ≤ limit
 IsWithin NoInput input = input ≡ []
 
--- the source has given these bytes, and they stay read
+-- these bytes were read from the source
 abbrev pub Takes : Stream → Stream → List ℕ → Type 0
-Takes src src' bytes = Consumes src.told src'.told bytes
+Takes src src' bytes = Consumes src.bytes src'.bytes bytes
 
 -- the whole input was read, to the source's end
 abbrev pub ReadsAll : Intake → Stream → Stream → List ℕ → Type 0
 ReadsAll (ToEnd limit) src src' input =
-    Takes src src' input × IsAtEnd src'.told × IsWithin (ToEnd limit) input
+    Takes src src' input × IsAtEnd src'.bytes × IsWithin (ToEnd limit) input
 ReadsAll (InPieces limit) src src' input =
-    Takes src src' input × IsAtEnd src'.told × IsWithin (InPieces limit) input
+    Takes src src' input × IsAtEnd src'.bytes × IsWithin (InPieces limit) input
 ReadsAll NoInput src src' input = (src' ≡ src) × (input ≡ [])
 
 -- some of the input was read
@@ -47,8 +47,8 @@ PassesLimit (InPieces limit) src src' =
     (taken : List ℕ) × Takes src src' taken × (limit < length taken)
 PassesLimit NoInput src src' = ⊥
 
--- the source has this input to give, and no more than the command takes
+-- this input is left in the source, and isn't longer than the command takes
 abbrev pub Offers : Intake → Stream → List ℕ → Type 0
-Offers (ToEnd limit) src input = (src.told ≡ Some input) × IsWithin (ToEnd limit) input
-Offers (InPieces limit) src input = (src.told ≡ Some input) × IsWithin (InPieces limit) input
+Offers (ToEnd limit) src input = (src.bytes ≡ Some input) × IsWithin (ToEnd limit) input
+Offers (InPieces limit) src input = (src.bytes ≡ Some input) × IsWithin (InPieces limit) input
 Offers NoInput src input = IsWithin NoInput input

@@ -1,4 +1,4 @@
--- What a run that printed a journal tells of the display: docs/PROGRAM.md.
+-- The display law of a run that printed a journal: docs/PROGRAM.md.
 use Rattle.std.specs.Prelude.{◌≡◌, ⊤, ℕ, List, ◌++◌, Ok, Some}
 use Rattle.std.specs.Io.KnownBytes.{Appends}
 use Rattle.session_order.specs.Sessions.{start_of}
@@ -19,8 +19,8 @@ use Rattle.vt_tool.specs.declared.status.Status.{Status}
 use Rattle.vt_tool.specs.declared.status.Status.TheVariants.{Fine, JournalFull}
 use Rattle.vt_world.specs.History.{IsLegal, replay}
 
--- out has grown by the journal of a legal history of the session that the input says, and by the console
--- after it; that history keeps the display law
+-- out has grown by the journal of a legal history of the input's session, and by the machine after it; that
+-- history keeps the display law
 pub record ShowsDisplays (input : List ℕ) (out out' : Stream) : Type 0 where
   pub value : SessionValue
   pub session : SessionView
@@ -29,7 +29,7 @@ pub record ShowsDisplays (input : List ℕ) (out out' : Stream) : Type 0 where
   pub history : List Entry
   pub end : Tail
   pub written :
-      Appends out.told out'.told
+      Appends out.bytes out'.bytes
       (journal_text 2 history end ++ final_text (replay (start_of session) history))
   pub legal : IsLegal (start_of session) history
   pub law : KeepsDisplayLaw (start_of session) history
@@ -46,7 +46,7 @@ HasJournal Fine = ⊤
 HasJournal (JournalFull full) = ⊤
 HasJournal other = ⊥
 
--- where a run of these words has printed a journal, its history keeps the display law
+-- if a run of these words has printed a journal, its history keeps the display law
 abbrev pub TellsDisplays : List Form → List (List ℕ) → Streams → Streams → Status → Type 0
 TellsDisplays known words old new status =
     (command : Command) → command_of known words ≡ Some command → PrintsJournal command

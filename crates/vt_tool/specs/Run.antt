@@ -1,6 +1,5 @@
--- A run of the program: what its words, its three streams and its status have to do with one
--- another. What each command reads and gives stands in Commands, the ways of reading in Input, and the
--- lines in Status. docs/PROGRAM.md tells it.
+-- A run of the program: the relation between its words, its three streams and its status (docs/PROGRAM.md).
+-- Commands has the input and the outcome of each command, Input the ways of reading, and Status the lines.
 use Rattle.std.specs.Prelude.{◌≡◌, ◌≢◌, ◌⊎◌, ℕ, List, [], None, Some}
 use Rattle.std.specs.Io.KnownBytes.{Appends}
 use Rattle.vt_io.specs.Faults.{Rose}
@@ -20,14 +19,13 @@ pub record Streams : Type 0 where
   pub out : Stream
   pub err : Stream
 
--- the input was read whole, the command gives this status for it, and out has grown by the whole
--- defined text
+-- the input was read whole, the command has this status for it, and out has grown by the whole defined text
 pub record Answers (command : Command) (src src' out out' : Stream) (status : Status) : Type 0 where
   pub input : List ℕ
   pub text : List ℕ
   pub read : ReadsAll (intake_of command) src src' input
   pub gives : Gives command input (record { status = status; text = text })
-  pub written : Appends out.told out'.told text
+  pub written : Appends out.bytes out'.bytes text
 
 -- the input was read whole, and out has grown by a prefix of the defined text
 pub record WritesPrefix (command : Command) (src src' out out' : Stream) : Type 0 where
@@ -35,10 +33,9 @@ pub record WritesPrefix (command : Command) (src src' out out' : Stream) : Type 
   pub outcome : Outcome
   pub read : ReadsAll (intake_of command) src src' input
   pub gives : Gives command input outcome
-  pub written : GrowsByPrefix out.told out'.told outcome.text
+  pub written : GrowsByPrefix out.bytes out'.bytes outcome.text
 
--- what each status says of the source and of out; the last case is every status that a command
--- gives for its input
+-- the source and out at each status; the last case is every status that a command has for its input
 abbrev pub Holds : Command → Stream → Stream → Stream → Stream → Status → Type 0
 Holds command src src' out out' Usage = ⊥
 Holds command src src' out out' ReadFault = StopsAtFault (intake_of command) src src' × (out' ≡ out)
@@ -49,8 +46,8 @@ Holds command src src' out out' WriteFault =
     Rose out.faults out'.faults × WritesPrefix command src src' out out'
 Holds command src src' out out' status = Answers command src src' out out' status
 
--- the words of a command that is known begin it; Usage comes exactly where the words are no such
--- command's, and leaves source and out as they were
+-- the run does the command of the words; the status is Usage exactly if the words are no known command, and
+-- then the source and out are unchanged
 abbrev pub Begins : List Form → List (List ℕ) → Stream → Stream → Stream → Stream → Status → Type 0
 Begins known words src src' out out' Usage =
     (command_of known words ≡ None) × (src' ≡ src) × (out' ≡ out)
@@ -62,20 +59,20 @@ Begins known words src src' out out' status =
 -- that line, and WriteFault stands in that status's place
 abbrev pub Tells : Status → Stream → Stream → Status → Type 0
 Tells first err err' status =
-    ((status ≡ first) × Appends err.told err'.told (line_of first))
+    ((status ≡ first) × Appends err.bytes err'.bytes (line_of first))
     ⊎ ((status ≡ WriteFault) × (line_of first ≢ []) × Rose err.faults err'.faults
-    × GrowsByPrefix err.told err'.told (line_of first))
+    × GrowsByPrefix err.bytes err'.bytes (line_of first))
 
--- a run of a call that knows these commands: the status before its line was told, what came of
--- words, source and out up to there, and the telling
+-- a run of a call that knows these commands: the status before its line was written, the source and out at
+-- that status, and the writing of the line
 pub record ProgramRun (known : List Form) (words : List (List ℕ)) (old new : Streams)
     (status : Status) : Type 0 where
   pub first : Status
   pub begins : Begins known words old.src new.src old.out new.out first
   pub tells : Tells first old.err new.err status
 
--- completeness: a known command, an input that it takes and no fault give the whole text with its
--- status, or out of memory
+-- completeness: with a known command, an input that it takes and no fault, the run writes the whole text and
+-- has its status, or memory ran out
 abbrev pub Completes : List Form → List (List ℕ) → Streams → Streams → Status → Type 0
 Completes known words old new status =
     (command : Command) (input : List ℕ) → command_of known words ≡ Some command
@@ -84,4 +81,4 @@ Completes known words old new status =
     → ¬ Rose old.err.faults new.err.faults
     → (status ≡ NoMemory)
     ⊎ ((outcome : Outcome) × Gives command input outcome × (status ≡ outcome.status)
-    × Appends old.out.told new.out.told outcome.text)
+    × Appends old.out.bytes new.out.bytes outcome.text)

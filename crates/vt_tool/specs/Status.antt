@@ -1,5 +1,4 @@
--- How a run of the program ends, this project's own: one case for each status. docs/PROGRAM.md and
--- README tell it.
+-- The end of a run of the program, this project's own: one case for each status (docs/PROGRAM.md).
 use Rattle.std.specs.Prelude.{ℕ, Bool, true, false, List, [], ◌++◌, codes, decimal}
 use Rattle.vt_tool.specs.declared.status.Status.{Status}
 use Rattle.vt_tool.specs.declared.status.Status.TheVariants.{Fine, Usage, ReadFault, WriteFault, NoMemory, Refused, TooLong, JournalFull, Illegal}
@@ -16,7 +15,7 @@ number_of TooLong = 6
 number_of (JournalFull full) = 7
 number_of (Illegal index why) = 8
 
--- the line on err, nothing where all went well
+-- the line on err: nothing at Fine
 abbrev pub line_of : Status → List ℕ
 line_of Fine = []
 line_of Usage = codes "vt: usage: screen R C | keys | type | play | race | check | drill N SEED | upgrade | cook | dumpkeys | review K N | explain | accept\n"
@@ -34,7 +33,7 @@ line_of (JournalFull full) =
 line_of (Illegal index why) =
     codes "vt: illegal " ++ (decimal index ++ (codes " " ++ (decimal why ++ codes "\n")))
 
--- a status that a command gives for its input; the others come of words, streams and memory
+-- a status that a command has for its input; the others are of words, streams and memory
 abbrev pub is_command_status : Status → Bool
 is_command_status Usage = false
 is_command_status ReadFault = false

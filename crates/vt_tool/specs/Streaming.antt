@@ -1,4 +1,4 @@
--- What a source draws on a screen: docs/PROGRAM.md, "Order".
+-- The drawing of a source on a screen: docs/PROGRAM.md, "Order".
 use Rattle.std.specs.Prelude.{◌≡◌, ◌↔◌, ℕ, ◌<◌, ◌≤◌, List, length, take, Result, Ok, Err, Some}
 use Rattle.vt_io.specs.Faults.{Rose}
 use Rattle.vt_io.specs.Stream.{Stream}
@@ -14,25 +14,25 @@ use Rattle.vt_tool.specs.declared.streamed.Streamed.{Streamed}
 use Rattle.vt_tool.specs.declared.streamed.Streamed.TheVariants.{End, Fault, TooLong}
 use Rattle.vt_units.specs.Run.{Reached}
 
--- all that the source has to give is run on the screen
+-- all bytes of the source are drawn on the screen
 abbrev pub DrawsAll : Stream → Stream → Reached Screen → Reached Screen → Type 0
 DrawsAll src src' emu emu' =
     (input : List ℕ) × ReadsAll (InPieces screen_limit) src src' input × (emu' ≡ after emu input)
 
--- the source's count rose; the bytes that it gave before are run, no more than the limit
+-- the source's count rose; the bytes before that fault are drawn, no more than the limit
 abbrev pub DrawsToFault : Stream → Stream → Reached Screen → Reached Screen → Type 0
 DrawsToFault src src' emu emu' =
     Rose src.faults src'.faults
     × (taken : List ℕ) × Takes src src' taken × (length taken ≤ screen_limit)
     × (emu' ≡ after emu taken)
 
--- the source gave more bytes than the limit; so many of them are run
+-- more bytes than the limit were read; the first ones, up to the limit, are drawn
 abbrev pub DrawsToLimit : Stream → Stream → Reached Screen → Reached Screen → Type 0
 DrawsToLimit src src' emu emu' =
     (taken : List ℕ) × Takes src src' taken × (screen_limit < length taken)
     × (emu' ≡ after emu (take screen_limit taken))
 
--- what each end says of the source and of the screen
+-- the source and the screen at each end
 abbrev pub EndsStreaming : Stream → Stream → Reached Screen → Reached Screen → Streamed → Type 0
 EndsStreaming src src' emu emu' End = DrawsAll src src' emu emu'
 EndsStreaming src src' emu emu' Fault = DrawsToFault src src' emu emu'
@@ -44,14 +44,14 @@ CountsFault before now End = now ≡ before
 CountsFault before now Fault = Rose before now
 CountsFault before now TooLong = now ≡ before
 
--- of a source that tells its bytes and doesn't fail, these say which end it is
+-- if the bytes of the source are known and no read fails, their number determines the end
 abbrev pub EndsByLength : Stream → Stream → Streamed → Type 0
 EndsByLength src src' end =
-    (input : List ℕ) → src.told ≡ Some input → ¬ Rose src.faults src'.faults
+    (input : List ℕ) → src.bytes ≡ Some input → ¬ Rose src.faults src'.faults
     → ((end ≡ End) ↔ (length input ≤ screen_limit))
     × ((end ≡ TooLong) ↔ (screen_limit < length input))
 
--- the screen after the whole input, or the status that the run has where nothing is written
+-- the screen after the whole input, or the status of a run that writes nothing
 abbrev pub GivesScreen : ℕ → ℕ → Stream → Stream → Result (Reached Screen) Status → Type 0
 GivesScreen rows cols src src' (Ok emu) = DrawsAll src src' (start rows cols) emu
 GivesScreen rows cols src src' (Err status) =

@@ -1,4 +1,4 @@
--- Words and the commands that they spell: docs/PROGRAM.md, "Words". A call knows a list of forms.
+-- Words and the commands that they spell: docs/PROGRAM.md, "Words". A call knows a list of commands.
 use Rattle.std.specs.Prelude.{ℕ, nat_le, ◌&&◌, List, [], ◌∷◌, Option, Some, None, bytes_eq, decimal, if◌then◌else◌}
 use Rattle.std.specs.Str.Parse.{digits_value}
 use Rattle.vt_tool.specs.declared.command.Command.{Command}
@@ -8,7 +8,7 @@ pub record Range : Type 0 where
   pub low : ℕ
   pub high : ℕ
 
--- a number, where the word spells it and the range has it; decimal is a number's digits, without sign
+-- this number, if the word spells it and it is in the range; decimal is the digits of a number, without sign
 -- or leading zeros
 abbrev pub if_spelled : Range → List ℕ → ℕ → Option ℕ
 if_spelled range word n =
@@ -19,12 +19,12 @@ if_spelled range word n =
 abbrev pub number_in : Range → List ℕ → Option ℕ
 number_in range word = if_spelled range word (digits_value 10 word)
 
--- what stands after a command's name: nothing, or two numbers
+-- the words after a command's name: none, or two numbers
 pub data Rest : Type 0 where
   alone : Command → Rest
   with_two : Range → Range → (ℕ → ℕ → Command) → Rest
 
--- a form of words: a command's name, and the rest
+-- the words of a command: its name, and the rest
 pub record Form : Type 0 where
   pub name : List ℕ
   pub rest : Rest
@@ -57,7 +57,7 @@ command_named [] name words = None
 command_named (f ∷ forms) name words =
     if bytes_eq name f.name then command_with f.rest words else command_named forms name words
 
--- the command that the words spell, where they are one of these forms
+-- the command that the words spell, if it is one of these
 abbrev pub command_of : List Form → List (List ℕ) → Option Command
 command_of forms [] = None
 command_of forms (name ∷ words) = command_named forms name words

@@ -1,4 +1,4 @@
-/// What the program is asked to do, in the order of the line of usage.
+/// A command of the program, in the order of the line of usage.
 #[derive(Clone, Copy)]
 pub(crate) enum Command {
     /// The rows of a screen of this size after the input.
@@ -7,9 +7,9 @@ pub(crate) enum Command {
     Keys,
     /// A line for each scan byte of the input's table, by the tables of its keymap.
     Typing,
-    /// The journal of the calls of the input, and the console after them.
+    /// The journal of the calls of the input, and the machine after them.
     Play,
-    /// The journal of the calls of the input, made by threads, and the console after them.
+    /// The journal of the calls of the input, made by threads, and the machine after them.
     Race,
     /// The verdict on the journal after the session of the input.
     Check,
@@ -17,15 +17,15 @@ pub(crate) enum Command {
     Drill { n: u32, seed: u64 },
     /// The journal of version 1 that is the input, in version 2.
     Upgrade,
-    /// The lines and signals that the input types, what is left of it, and its echo.
+    /// The lines and signals that the input types, the bytes that are left, and the echo.
     Cook,
     /// The tables of a keymap text as a keymap text.
     DumpKeys,
-    /// What an ear is told of the journal after the session of the input: of these kinds of notices, a
-    /// bit for each, and of this console, or of all where it is 0.
+    /// The notices of the journal after the session of the input, of these kinds, a bit for each, and
+    /// of this console, or of all if it is 0.
     Review { kinds: u8, console: u8 },
-    /// Why the display changed in the journal after the session of the input.
+    /// The reasons for the switches in the journal after the session of the input.
     Explain,
-    /// Whether the text after session and journal of the input is the journal's certificate.
+    /// Whether the text after the session and the journal of the input is the journal's certificate.
     Accept,
 }

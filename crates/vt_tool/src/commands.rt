@@ -1,8 +1,7 @@
 //! The commands: one file for each.
-ghost use Rattle.std.specs.Prelude.{IfOk, IsTrue};
+ghost use Rattle.std.specs.Prelude.{IfOk};
 ghost use Rattle.vt_tool.specs.Commands.{Gives, IsFit, IsSerial, TakesText, intake_of};
 ghost use Rattle.vt_tool.specs.Input.{IsWithin};
-ghost use Rattle.vt_tool.specs.Status.{is_command_status};
 
 mod accept;
 mod check;
@@ -29,15 +28,13 @@ use crate::commands::judge_request::JudgeRequest;
 use std::alloc::Global;
 use vt_base::NoMemory;
 
-/// What the command gives for the input that it takes as one text, if it needs no threads.
+/// The answer of a command that needs no threads, for an input that it takes as one text.
 pub(crate) fn answer_to(alloc: Global, command: Command, input: &[u8]) -> Result<Answer, NoMemory>
     requires serial { IsSerial command }
     requires text { TakesText command }
     requires fit { IsFit command }
     requires within { IsWithin (intake_of command) input.now }
-    ensures gives { IfOk result (λ answer. Gives command input.now
-        (record { status = answer.status; text = answer.text.bytes })) }
-    ensures own { IfOk result (λ answer. IsTrue (is_command_status answer.status)) }
+    ensures { IfOk result (Gives command input.now) }
 {
     match command {
         Command::Keys => keys::answer(alloc, input),

@@ -9,19 +9,17 @@ use std::alloc::Global;
 use vt_base::Bytes;
 use vt_io::Source;
 
-/// The bytes that one read asks for at most.
+/// The most bytes that one read asks for.
 const READ_BYTES: usize = 65_536;
 
-/// The input of the command, or the status that comes in its place.
+/// The input of the command, or the status of a run without it.
 pub(crate) fn input_of<S: Source>(
     alloc: Global,
     command: Command,
     src: &mut S,
 ) -> Result<Bytes, Status>
     requires { TakesText command }
-    ensures { GivesInput command
-        (record { told = S.left src.old; faults = S.faults src.old })
-        (record { told = S.left src.new; faults = S.faults src.new }) result }
+    ensures { GivesInput command (S.stream src.old) (S.stream src.new) result }
 {
     match read_input(alloc, src, intake_for(command)) {
         Ok(input) => Ok(input),
@@ -31,12 +29,10 @@ pub(crate) fn input_of<S: Source>(
     }
 }
 
-// Reads what a command takes of the source as one text.
+// Reads the input of a command as one text.
 fn read_input<S: Source>(alloc: Global, src: &mut S, intake: Intake) -> Result<Bytes, ReadEnd>
     requires { IsWhole intake }
-    ensures { EndsReading intake
-        (record { told = S.left src.old; faults = S.faults src.old })
-        (record { told = S.left src.new; faults = S.faults src.new }) result }
+    ensures { EndsReading intake (S.stream src.old) (S.stream src.new) result }
 {
     match intake {
         Intake::ToEnd(limit) => read_to_end(alloc, src, limit),
@@ -46,9 +42,7 @@ fn read_input<S: Source>(alloc: Global, src: &mut S, intake: Intake) -> Result<B
 }
 
 fn read_to_end<S: Source>(alloc: Global, src: &mut S, limit: usize) -> Result<Bytes, ReadEnd>
-    ensures { EndsReading (Intake.ToEnd limit)
-        (record { told = S.left src.old; faults = S.faults src.old })
-        (record { told = S.left src.new; faults = S.faults src.new }) result }
+    ensures { EndsReading (Intake.ToEnd limit) (S.stream src.old) (S.stream src.new) result }
 {
     let mut piece = [0; READ_BYTES];
     let mut input = Bytes::with_room(alloc, 0)?;

@@ -17,8 +17,8 @@ use std::thread::Threads;
 use vt_io::{Gate, Sink, Source};
 use vt_world::{displays_are_lawful, refused_calls_change_nothing};
 
-/// Runs the command of the words over the source and the sinks. `race` gives each caller a thread, and asks the
-/// gate before each call. Every other command is that of `vt_command`.
+/// Runs the command of the words over the source and the sinks. `race` gives each caller a thread, and calls the
+/// gate before each call on the machine. Every other command is done by `vt_command`.
 pub fn vt_run<S: Source, O: Sink, E: Sink, G: Gate + Sync, R: Threads + Wait + Sync>(
     rt: &R,
     alloc: Global,
@@ -29,38 +29,14 @@ pub fn vt_run<S: Source, O: Sink, E: Sink, G: Gate + Sync, R: Threads + Wait + S
     gate: &G,
 ) -> Status
     ensures run { ProgramRun all_forms (map string_bytes words.now)
-        (record {
-          src = record { told = S.left src.old; faults = S.faults src.old };
-          out = record { told = O.held out.old; faults = O.faults out.old };
-          err = record { told = E.held err.old; faults = E.faults err.old };
-        })
-        (record {
-          src = record { told = S.left src.new; faults = S.faults src.new };
-          out = record { told = O.held out.new; faults = O.faults out.new };
-          err = record { told = E.held err.new; faults = E.faults err.new };
-        }) result }
+        (record { src = S.stream src.old; out = O.stream out.old; err = E.stream err.old })
+        (record { src = S.stream src.new; out = O.stream out.new; err = E.stream err.new }) result }
     ensures complete { Completes all_forms (map string_bytes words.now)
-        (record {
-          src = record { told = S.left src.old; faults = S.faults src.old };
-          out = record { told = O.held out.old; faults = O.faults out.old };
-          err = record { told = E.held err.old; faults = E.faults err.old };
-        })
-        (record {
-          src = record { told = S.left src.new; faults = S.faults src.new };
-          out = record { told = O.held out.new; faults = O.faults out.new };
-          err = record { told = E.held err.new; faults = E.faults err.new };
-        }) result }
+        (record { src = S.stream src.old; out = O.stream out.old; err = E.stream err.old })
+        (record { src = S.stream src.new; out = O.stream out.new; err = E.stream err.new }) result }
     ensures displays { TellsDisplays all_forms (map string_bytes words.now)
-        (record {
-          src = record { told = S.left src.old; faults = S.faults src.old };
-          out = record { told = O.held out.old; faults = O.faults out.old };
-          err = record { told = E.held err.old; faults = E.faults err.old };
-        })
-        (record {
-          src = record { told = S.left src.new; faults = S.faults src.new };
-          out = record { told = O.held out.new; faults = O.faults out.new };
-          err = record { told = E.held err.new; faults = E.faults err.new };
-        }) result }
+        (record { src = S.stream src.old; out = O.stream out.old; err = E.stream err.old })
+        (record { src = S.stream src.new; out = O.stream out.new; err = E.stream err.new }) result }
 {
     displays_are_lawful();
     refused_calls_change_nothing();
@@ -80,10 +56,7 @@ fn do_race<S: Source, O: Sink, G: Gate + Sync, R: Threads + Wait + Sync>(
     gate: &G,
 ) -> Status
     ensures { Holds Command.Race
-        (record { told = S.left src.old; faults = S.faults src.old })
-        (record { told = S.left src.new; faults = S.faults src.new })
-        (record { told = O.held out.old; faults = O.faults out.old })
-        (record { told = O.held out.new; faults = O.faults out.new }) result }
+        (S.stream src.old) (S.stream src.new) (O.stream out.old) (O.stream out.new) result }
 {
     match input_of(alloc, Command::Race, src) {
         Ok(input) => write_answer(out, race::answer(rt, alloc, input.as_slice(), gate)),

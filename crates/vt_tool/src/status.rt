@@ -3,7 +3,7 @@ ghost use Rattle.vt_tool.specs.Status.{number_of};
 
 use vt_journal::Full;
 
-/// How a run of the program ended.
+/// The end of a run of the program.
 #[derive(Clone, Copy, PartialEq, Eq)]
 pub enum Status {
     /// The whole text is written.

@@ -1,4 +1,4 @@
-/// How drawing a source ended.
+/// The end of the drawing of a source.
 #[derive(Clone, Copy, Debug, PartialEq, Eq)]
 pub enum Streamed {
     /// The source was read to its end.

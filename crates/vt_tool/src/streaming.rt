@@ -6,17 +6,14 @@ use crate::streamed::Streamed;
 use vt_io::Source;
 use vt_screen::{Emu, any_cut};
 
-/// Draws the bytes of the source on the screen, piece by piece through `buf`. Their side effects are dropped.
+/// Draws the bytes of the source on the screen, piece by piece through `buf`. The side effects of the text are
+/// dropped.
 pub fn screen_stream<S: Source>(src: &mut S, emu: &mut Emu, buf: &mut [u8]) -> Streamed
     requires some { 1 ≤ length buf.old }
     requires few { length buf.old ≤ 4_096 }
-    ensures ends { EndsStreaming
-        (record { told = S.left src.old; faults = S.faults src.old })
-        (record { told = S.left src.new; faults = S.faults src.new }) emu.old emu.new result }
-    ensures exact { EndsByLength
-        (record { told = S.left src.old; faults = S.faults src.old })
-        (record { told = S.left src.new; faults = S.faults src.new }) result }
-    ensures count { CountsFault (S.faults src.old) (S.faults src.new) result }
+    ensures ends { EndsStreaming (S.stream src.old) (S.stream src.new) emu.old emu.new result }
+    ensures exact { EndsByLength (S.stream src.old) (S.stream src.new) result }
+    ensures count { CountsFault (S.stream src.old).faults (S.stream src.new).faults result }
 {
     any_cut();
     let mut left = SCREEN_LIMIT;

@@ -12,11 +12,9 @@ use vt_journal::Full;
 /// Room for a line with three numbers of at most 40 bytes each.
 const LINE_BYTES: usize = 160;
 
-/// Writes the status's line on err, and gives the status that the run then has.
+/// Writes the status's line to standard error, and returns the status of the run.
 pub(crate) fn write_status<E: Sink>(err: &mut E, first: Status) -> Status
-    ensures { Tells first
-        (record { told = E.held err.old; faults = E.faults err.old })
-        (record { told = E.held err.new; faults = E.faults err.new }) result }
+    ensures { Tells first (E.stream err.old) (E.stream err.new) result }
 {
     match first {
         Status::Fine => Status::Fine,
@@ -47,9 +45,7 @@ pub(crate) fn write_status<E: Sink>(err: &mut E, first: Status) -> Status
 fn write_line<E: Sink>(err: &mut E, first: Status, line: &[u8]) -> Status
     requires line { line.now ≡ line_of first }
     requires some { line_of first ≢ [] }
-    ensures { Tells first
-        (record { told = E.held err.old; faults = E.faults err.old })
-        (record { told = E.held err.new; faults = E.faults err.new }) result }
+    ensures { Tells first (E.stream err.old) (E.stream err.new) result }
 {
     match write_all(err, line) {
         Ok(()) => first,

@@ -25,38 +25,14 @@ pub fn vt_command<S: Source, O: Sink, E: Sink>(
     err: &mut E,
 ) -> Status
     ensures run { ProgramRun serial_forms (map string_bytes words.now)
-        (record {
-          src = record { told = S.left src.old; faults = S.faults src.old };
-          out = record { told = O.held out.old; faults = O.faults out.old };
-          err = record { told = E.held err.old; faults = E.faults err.old };
-        })
-        (record {
-          src = record { told = S.left src.new; faults = S.faults src.new };
-          out = record { told = O.held out.new; faults = O.faults out.new };
-          err = record { told = E.held err.new; faults = E.faults err.new };
-        }) result }
+        (record { src = S.stream src.old; out = O.stream out.old; err = E.stream err.old })
+        (record { src = S.stream src.new; out = O.stream out.new; err = E.stream err.new }) result }
     ensures complete { Completes serial_forms (map string_bytes words.now)
-        (record {
-          src = record { told = S.left src.old; faults = S.faults src.old };
-          out = record { told = O.held out.old; faults = O.faults out.old };
-          err = record { told = E.held err.old; faults = E.faults err.old };
-        })
-        (record {
-          src = record { told = S.left src.new; faults = S.faults src.new };
-          out = record { told = O.held out.new; faults = O.faults out.new };
-          err = record { told = E.held err.new; faults = E.faults err.new };
-        }) result }
+        (record { src = S.stream src.old; out = O.stream out.old; err = E.stream err.old })
+        (record { src = S.stream src.new; out = O.stream out.new; err = E.stream err.new }) result }
     ensures displays { TellsDisplays serial_forms (map string_bytes words.now)
-        (record {
-          src = record { told = S.left src.old; faults = S.faults src.old };
-          out = record { told = O.held out.old; faults = O.faults out.old };
-          err = record { told = E.held err.old; faults = E.faults err.old };
-        })
-        (record {
-          src = record { told = S.left src.new; faults = S.faults src.new };
-          out = record { told = O.held out.new; faults = O.faults out.new };
-          err = record { told = E.held err.new; faults = E.faults err.new };
-        }) result }
+        (record { src = S.stream src.old; out = O.stream out.old; err = E.stream err.old })
+        (record { src = S.stream src.new; out = O.stream out.new; err = E.stream err.new }) result }
 {
     displays_are_lawful();
     refused_calls_change_nothing();
@@ -64,13 +40,10 @@ pub fn vt_command<S: Source, O: Sink, E: Sink>(
     write_status(err, first)
 }
 
-// The status before its line is told.
+// Does the command of the words, and returns the status whose line is still to be written.
 fn begin<S: Source, O: Sink>(alloc: Global, words: &[String], src: &mut S, out: &mut O) -> Status
     ensures { Begins serial_forms (map string_bytes words.now)
-        (record { told = S.left src.old; faults = S.faults src.old })
-        (record { told = S.left src.new; faults = S.faults src.new })
-        (record { told = O.held out.old; faults = O.faults out.old })
-        (record { told = O.held out.new; faults = O.faults out.new }) result }
+        (S.stream src.old) (S.stream src.new) (O.stream out.old) (O.stream out.new) result }
 {
     match parse_words(words) {
         Some(command) => do_command(alloc, command, src, out),
@@ -78,7 +51,7 @@ fn begin<S: Source, O: Sink>(alloc: Global, words: &[String], src: &mut S, out: 
     }
 }
 
-// Does the command, which needs no threads.
+// Does a command that needs no threads.
 fn do_command<S: Source, O: Sink>(
     alloc: Global,
     command: Command,
@@ -88,10 +61,7 @@ fn do_command<S: Source, O: Sink>(
     requires serial { IsSerial command }
     requires fit { IsFit command }
     ensures { Holds command
-        (record { told = S.left src.old; faults = S.faults src.old })
-        (record { told = S.left src.new; faults = S.faults src.new })
-        (record { told = O.held out.old; faults = O.faults out.old })
-        (record { told = O.held out.new; faults = O.faults out.new }) result }
+        (S.stream src.old) (S.stream src.new) (O.stream out.old) (O.stream out.new) result }
 {
     match command {
         Command::Screen { rows, cols } => do_screen(alloc, Size { rows, cols }, src, out),
@@ -102,10 +72,7 @@ fn do_command<S: Source, O: Sink>(
 // Does `screen`.
 fn do_screen<S: Source, O: Sink>(alloc: Global, size: Size, src: &mut S, out: &mut O) -> Status
     ensures { Holds (Command.Screen size.rows size.cols)
-        (record { told = S.left src.old; faults = S.faults src.old })
-        (record { told = S.left src.new; faults = S.faults src.new })
-        (record { told = O.held out.old; faults = O.faults out.old })
-        (record { told = O.held out.new; faults = O.faults out.new }) result }
+        (S.stream src.old) (S.stream src.new) (O.stream out.old) (O.stream out.new) result }
 {
     match screen::draw(alloc, size, src) {
         Ok(emu) => write_answer(out, screen::answer(alloc, &emu)),
@@ -119,10 +86,7 @@ fn do_text<S: Source, O: Sink>(alloc: Global, command: Command, src: &mut S, out
     requires text { TakesText command }
     requires fit { IsFit command }
     ensures { Holds command
-        (record { told = S.left src.old; faults = S.faults src.old })
-        (record { told = S.left src.new; faults = S.faults src.new })
-        (record { told = O.held out.old; faults = O.faults out.old })
-        (record { told = O.held out.new; faults = O.faults out.new }) result }
+        (S.stream src.old) (S.stream src.new) (O.stream out.old) (O.stream out.new) result }
 {
     match input_of(alloc, command, src) {
         Ok(input) => write_answer(out, answer_to(alloc, command, input.as_slice())),

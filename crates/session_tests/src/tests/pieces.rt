@@ -17,9 +17,7 @@ struct Pieces {
 }
 
 impl Source for Pieces {
-    ghost left = { λ _. None };
-
-    ghost faults = { λ _. 0 };
+    ghost stream = { λ _. record { bytes = None; faults = 0 } };
 
     fn read(&mut self, buf: &mut [u8]) -> Result<usize, Failed> {
         if self.left_of_piece == 0 {

@@ -1,4 +1,4 @@
--- What `cook` gives: docs/COOKED.md.
+-- The outcome of `cook`: docs/COOKED.md.
 use Rattle.std.specs.Prelude.{◌≡◌, ℕ, List, [], ◌∷◌, ◌++◌, codes, decimal}
 use Rattle.std.specs.List.{flat_map}
 use Rattle.cooked.specs.Given.{Item, byte, line, signal}
@@ -6,8 +6,7 @@ use Rattle.cooked.specs.Termios.{usual}
 use Rattle.cooked.specs.Whole.{all_echo, all_items, rest}
 use Rattle.vt_journal.specs.Hex.{hex_text}
 use Rattle.vt_journal.specs.Journal.{line_text}
-use Rattle.vt_tool.specs.Outcome.{Outcome}
-use Rattle.vt_tool.specs.declared.status.Status.TheVariants.{Fine}
+use Rattle.vt_tool.specs.Outcome.{Outcome, fine_text}
 
 -- a line of a name and bytes
 abbrev pub bytes_line : List ℕ → List ℕ → List ℕ
@@ -19,13 +18,13 @@ item_line (line bytes) = bytes_line (codes "line") bytes
 item_line (byte b) = bytes_line (codes "byte") (b ∷ [])
 item_line (signal s) = line_text (codes "signal" ∷ decimal s ∷ [])
 
--- the items of all that was typed, what is kept of it, and what is echoed, by the usual settings
+-- the items of all typed bytes, the bytes that are left, and the echo, by the usual settings
 abbrev pub cook_text : List ℕ → List ℕ
 cook_text typed =
     flat_map item_line (all_items usual typed)
     ++ (bytes_line (codes "rest") (rest usual typed)
     ++ bytes_line (codes "echo") (all_echo usual typed))
 
--- it is never refused
+-- no input is refused
 abbrev pub GivesCooked : List ℕ → Outcome → Type 0
-GivesCooked typed outcome = outcome ≡ record { status = Fine; text = cook_text typed }
+GivesCooked typed outcome = outcome ≡ fine_text (cook_text typed)

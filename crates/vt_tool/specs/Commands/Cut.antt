@@ -9,7 +9,7 @@ use Rattle.vt_tool.specs.declared.commands.cut.CutMark.TheVariants as mark
 abbrev pub cert_mark : List ℕ
 cert_mark = codes "%explain "
 
--- a text begins with the mark: that of a journal is its first line, whole, of either version
+-- a text begins with the mark; the mark of a journal is its whole first line, of either version
 abbrev pub HasMark : CutMark → List ℕ → Type 0
 HasMark mark.Journal text = (version : ℕ) × HasFirst version text
 HasMark mark.Certificate text = (rest : List ℕ) × (text ≡ cert_mark ++ rest)
@@ -18,7 +18,7 @@ HasMark mark.Certificate text = (rest : List ℕ) × (text ≡ cert_mark ++ rest
 abbrev pub BeginsLine : List ℕ → Type 0
 BeginsLine text = (text ≡ []) ⊎ ((before : List ℕ) × (text ≡ before ++ 0x0A ∷ []))
 
--- the input is this text, and what follows, which begins a line, and that with the mark
+-- the input is this text and the text after it, which begins a line with the mark
 pub record IsMarked (what : CutMark) (input text after : List ℕ) : Type 0 where
   pub parts : input ≡ text ++ after
   pub line : BeginsLine text
@@ -29,12 +29,12 @@ pub record IsCutFirst (what : CutMark) (input text after : List ℕ) : Type 0 wh
   pub has : IsMarked what input text after
   pub first : (front back : List ℕ) → IsMarked what input front back → length text ≤ length front
 
--- it has no such line, and so nothing after a text
+-- the input has no such line, so nothing is after the text
 pub record IsUncut (what : CutMark) (input text after : List ℕ) : Type 0 where
   pub none : (front back : List ℕ) → ¬ IsMarked what input front back
   pub all : text ≡ input
   pub nothing : after ≡ []
 
--- the text before the first line with the mark, and what follows from there
+-- the text before the first line with the mark, and the text from that line on
 abbrev pub IsCut : CutMark → List ℕ → List ℕ → List ℕ → Type 0
 IsCut what input text after = IsCutFirst what input text after ⊎ IsUncut what input text after

@@ -1,4 +1,4 @@
--- What `drill` gives: five numbers of the serial play of a session that is made from a number. This
+-- The outcome of `drill`: five numbers of the serial play of a session that is made from a number. This
 -- project's own: docs/SESSIONS.md.
 use Rattle.std.specs.Prelude.{◌≡◌, ℕ, ◌≤◌, List, [], ◌∷◌, ◌++◌, codes, decimal, length, map, sum_by, Option}
 use Rattle.std.specs.List.{range_with_len}
@@ -31,7 +31,7 @@ pub record IsDrillSize (n : ℕ) : Type 0 where
   pub some : 1 ≤ n
   pub few : n ≤ 10000
 
--- the input queue of a console, and how many pieces all consoles' queues dropped
+-- the input queue of a console, and the number of pieces that the queues of all consoles dropped
 abbrev pub queue_of : WorldState → ℕ → Queue
 queue_of w c = (input_at w.inputs c).queue
 
@@ -42,8 +42,8 @@ dropped_in w = sum_by (λ queue. queue.dropped) (map (queue_of w) (range_with_le
 abbrev pub number_line : List ℕ → ℕ → List ℕ
 number_line name n = line_text (name ∷ decimal n ∷ [])
 
--- how many entries the history has, what they count for, how often the display switched, how many
--- pieces were dropped, and who has the display
+-- the number of entries, the sum of their charges, the number of switches, the number of dropped pieces, and
+-- the console in front
 abbrev pub drill_text : List Entry → WorldState → List ℕ
 drill_text history w =
     (((number_line (codes "events") (length history)

@@ -1,4 +1,4 @@
--- What `explain` makes of a journal of a session: the certificate of its hops. This project's own:
+-- The outcome of `explain` for a journal of a session: the certificate of its switches. This project's own:
 -- docs/EXPLAIN.md.
 use Rattle.std.specs.Prelude.{◌≡◌, List}
 use Rattle.session_order.specs.Sessions.{setup_of, start_of}

@@ -1,4 +1,4 @@
--- What `play` gives: the serial play of a session, and the console after it. This project's own:
+-- The outcome of `play`: the serial play of a session, and the machine after it. This project's own:
 -- docs/SESSIONS.md.
 use Rattle.std.specs.Prelude.{ℕ, List, Ok, Option}
 use Rattle.session_order.specs.Meant.{plain_history}
@@ -10,20 +10,19 @@ use Rattle.vt_journal.specs.Room.{tail_at}
 use Rattle.vt_journal.specs.declared.full.Full.{Full}
 use Rattle.vt_tool.specs.Commands.Session.{IsPrinted, IsRightRun}
 use Rattle.vt_tool.specs.Outcome.{Outcome}
-use Rattle.vt_tool.specs.declared.status.Status.{Status}
 
--- the serial play of a session, printed
-pub record IsPlayed (s : SessionView) (status : Status) (written : List ℕ) : Type 0 where
+-- the outcome prints the serial play of the session
+pub record IsPlayed (s : SessionView) (outcome : Outcome) : Type 0 where
   pub history : List Entry
   pub stop : Option Full
   pub serial : IsSerial (setup_of s) s.turns (record { history = plain_history history; stop = stop })
   pub right : IsRightRun s history (tail_at history stop)
-  pub printed : IsPrinted s history (tail_at history stop) status written
+  pub printed : IsPrinted s history (tail_at history stop) outcome
 
--- what is printed of the serial play of the session that the input says
+-- the outcome prints the serial play of the input's session
 pub record GivesPlayed (input : List ℕ) (outcome : Outcome) : Type 0 where
   pub value : SessionValue
   pub session : SessionView
   pub said : session_says input (Ok value)
   pub is : IsSessionOf session value
-  pub played : IsPlayed session outcome.status outcome.text
+  pub played : IsPlayed session outcome

@@ -1,4 +1,4 @@
--- What `race` gives: some legal run of a session, whatever turns its threads take, and the console after
+-- The outcome of `race`: some legal run of a session, for any schedule of its threads, and the machine after
 -- it. This project's own: docs/SESSIONS.md.
 use Rattle.std.specs.Prelude.{ℕ, List, Ok, Option}
 use Rattle.session_text.specs.Sessions.{IsSessionOf, SessionValue, SessionView, session_says}
@@ -7,19 +7,18 @@ use Rattle.vt_journal.specs.Room.{tail_at}
 use Rattle.vt_journal.specs.declared.full.Full.{Full}
 use Rattle.vt_tool.specs.Commands.Session.{IsPrinted, IsRightRun}
 use Rattle.vt_tool.specs.Outcome.{Outcome}
-use Rattle.vt_tool.specs.declared.status.Status.{Status}
 
--- some legal run of a session, printed
-pub record IsRaced (s : SessionView) (status : Status) (written : List ℕ) : Type 0 where
+-- the outcome prints some legal run of the session
+pub record IsRaced (s : SessionView) (outcome : Outcome) : Type 0 where
   pub history : List Entry
   pub stop : Option Full
   pub right : IsRightRun s history (tail_at history stop)
-  pub printed : IsPrinted s history (tail_at history stop) status written
+  pub printed : IsPrinted s history (tail_at history stop) outcome
 
--- what is printed of some legal run of the session that the input says
+-- the outcome prints some legal run of the input's session
 pub record GivesRaced (input : List ℕ) (outcome : Outcome) : Type 0 where
   pub value : SessionValue
   pub session : SessionView
   pub said : session_says input (Ok value)
   pub is : IsSessionOf session value
-  pub raced : IsRaced session outcome.status outcome.text
+  pub raced : IsRaced session outcome

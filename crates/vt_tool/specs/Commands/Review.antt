@@ -1,4 +1,4 @@
--- What `review` makes of a journal of a session: what one ear is told of it. This project's own:
+-- The outcome of `review` for a journal of a session: the notices for one ear. This project's own:
 -- docs/REVIEW.md.
 use Rattle.std.specs.Prelude.{◌≡◌, ℕ, ◌≤◌, ◌-◌, ◌^◌, ◌==◌, [], ◌∷◌, if◌then◌else◌}
 use Rattle.session_order.specs.Sessions.{setup_of, start_of}
@@ -30,7 +30,7 @@ ear_of kinds console = record {
   consoles = if console == 0 then 2 ^ 64 - 1 else 2 ^ console;
 }
 
--- what one ear is told of a legal journal, or the verdict
+-- the notices of a legal journal for one ear, or the verdict
 pub record IsReviewed (ear : EarTable) (s : SessionView) (j : Journal) (outcome : Outcome) : Type 0 where
   pub verdict : Verdict
   pub judged : Judges (setup_of s) j.entries j.tail verdict

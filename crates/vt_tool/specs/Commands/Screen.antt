@@ -1,10 +1,9 @@
--- What `screen` gives: docs/SCREEN.md.
+-- The outcome of `screen`: docs/SCREEN.md.
 use Rattle.std.specs.Prelude.{◌≡◌, ℕ, ◌≤◌, List}
 use Rattle.vt_dump.specs.Rows.{rows_text}
 use Rattle.vt_screen.specs.Run.{after, start}
-use Rattle.vt_tool.specs.Outcome.{Outcome}
+use Rattle.vt_tool.specs.Outcome.{Outcome, fine_text}
 use Rattle.vt_tool.specs.Words.{Range}
-use Rattle.vt_tool.specs.declared.status.Status.TheVariants.{Fine}
 
 -- the numbers of rows and of columns
 abbrev pub side : Range
@@ -23,7 +22,4 @@ screen_limit = 67108864
 -- the rows of a blank screen after the input
 abbrev pub GivesRows : ℕ → ℕ → List ℕ → Outcome → Type 0
 GivesRows rows cols input outcome =
-    outcome ≡ record {
-      status = Fine;
-      text = rows_text (after (start rows cols) input).state.grid.cells;
-    }
+    outcome ≡ fine_text (rows_text (after (start rows cols) input).state.grid.cells)

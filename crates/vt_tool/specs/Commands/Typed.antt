@@ -1,4 +1,4 @@
--- What `type` keeps on its way. No public clause names this.
+-- The state of `type` between two scan bytes. No public clause names this.
 use Rattle.std.specs.Prelude.{◌≡◌, [], ℕ, List}
 use Rattle.key_compile.specs.Compiled.{AreTablesOf}
 use Rattle.key_machine.specs.Keys.{Keys, State}
@@ -8,7 +8,7 @@ use Rattle.scan_codes.specs.Scan.{Scan, scan_of, start_codes}
 use Rattle.vt_tool.specs.Commands.Typing.{TypeTable, after_typing, start_typing, make_typing}
 use Rattle.vt_tool.specs.declared.commands.typing.type_table.TypeTable.{TypeTable as CodeTable}
 
--- a table that was read is this one
+-- the table that the code read is this one
 abbrev pub IsReadAs : CodeTable → TypeTable → Type 0
 IsReadAs code table =
     (code.mode ≡ table.mode) × AreTablesOf table.lines code.tables × (code.keys.bytes ≡ table.keys)

@@ -1,12 +1,11 @@
--- What `type` gives for a table with a keymap and scan bytes: a line for each byte. This project's own:
+-- The outcome of `type` for a table with a keymap and scan bytes: a line for each byte. This project's own:
 -- docs/KEYS.md.
 use Rattle.std.specs.Prelude.{◌≡◌, ℕ, Bool, true, false, ◌==◌, ◌||◌, ◌∷◌, ◌++◌, [], codes, decimal, List, Option, Some, None, Result, Ok, Err, if◌then◌else◌}
 use lib.Pointwise.{pointwise}
 use lib.Dec.{eqb}
 use Rattle.key_compile.specs.Compiled.{AreTablesOf}
-use Rattle.key_machine.specs.Keys.{Keys, State, start_keys, start_state}
+use Rattle.key_machine.specs.Keys.{Keys, State, start_keys, start_modes, start_state}
 use Rattle.key_machine.specs.Step.{Step, key_step}
-use Rattle.key_machine.specs.declared.key_modes.KeyModes.{KeyModes}
 use Rattle.key_machine.specs.declared.key_out.KeyOut.{KeyOut}
 use Rattle.key_machine.specs.declared.key_out.KeyOut.TheVariants.{Attention, Bytes, Last, Next, Nothing, Prev, Spawn, Switch}
 use Rattle.key_tables.specs.Tables.{Tables}
@@ -21,10 +20,10 @@ use Rattle.table_fields.specs.FaultCodes.{UNKNOWN_KEY}
 use Rattle.table_fields.specs.Checked.{check, fault, ◌>>=◌}
 use Rattle.table_fields.specs.Fields.{document_of, keymap_of, keys_pass, number_of, scan_bytes_of, text_of, texts_of}
 use Rattle.table_fields.specs.declared.fault.TableFault.{TableFault}
-use Rattle.vt_tool.specs.Outcome.{Outcome}
-use Rattle.vt_tool.specs.declared.status.Status.TheVariants.{Fine, Refused}
+use Rattle.vt_tool.specs.Outcome.{Outcome, fine_text, no_text}
+use Rattle.vt_tool.specs.declared.status.Status.TheVariants.{Refused}
 
--- what a table says: the keyboard mode, the lines of the keymap, and the scan bytes
+-- a table: the keyboard mode, the lines of the keymap, and the scan bytes
 pub record TypeTable : Type 0 where
   pub mode : ℕ
   pub lines : List KeymapLine
@@ -52,10 +51,6 @@ type_table_at members = do
 abbrev pub type_table_of : List ℕ → Result TypeTable TableFault
 type_table_of input = document_of input >>= type_table_at
 
--- the screen that keys are typed on is a start screen
-abbrev pub start_modes : KeyModes
-start_modes = record { cursor = false; keypad = false; repeat = true; newline = false }
-
 -- the keyboard and the key state
 pub record Typing : Type 0 where
   pub keys : Keys
@@ -64,11 +59,11 @@ pub record Typing : Type 0 where
 abbrev pub make_typing : Keys → State → Typing
 make_typing keys state = record { keys = keys; state = state }
 
--- at first no key is down, and the state is that of a start but for the mode
+-- at first no key is down, and the state is the start state with this mode
 abbrev pub start_typing : ℕ → Typing
 start_typing mode = make_typing start_keys (record start_state { mode = mode })
 
--- a key event
+-- a key event, on a start screen
 abbrev pub typing_step : Tables → Typing → KeyEvent → Step
 typing_step tables t e = key_step tables start_modes 0 e t.keys t.state
 
@@ -80,19 +75,19 @@ abbrev pub after_typing : Tables → Typing → List KeyEvent → Typing
 after_typing tables t [] = t
 after_typing tables t (e ∷ more) = after_typing tables (typed_on (typing_step tables t e)) more
 
--- what a key event says, where there is one
+-- the output of a key event, or nothing without one
 abbrev pub said_by : Tables → Typing → Option KeyEvent → KeyOut
 said_by tables t None = Nothing
 said_by tables t (Some e) = (typing_step tables t e).out
 
--- what a scan byte says after the bytes before it: the keys of these are typed, and then the key
--- that it ends, if it ends one
+-- the output of a scan byte after these bytes: their keys are typed, and then the key that it ends, if it
+-- ends one
 abbrev pub said_after : Tables → ℕ → List ℕ → ℕ → KeyOut
 said_after tables mode before b =
     said_by tables (after_typing tables (start_typing mode) (events start_codes [] before))
     (event_after start_codes (rest [] before) b)
 
--- the words of what a key says
+-- the words for the output of a key
 abbrev pub out_words : KeyOut → List (List ℕ)
 out_words (Bytes bytes) = codes "bytes" ∷ hex_text bytes ∷ []
 out_words (Switch n) = codes "switch" ∷ decimal n ∷ []
@@ -114,7 +109,7 @@ line_words mode b out =
     (if is_attention out then out_words out else codes "bytes" ∷ hex_byte b ∷ [])
     else out_words out
 
--- the line of a scan byte: the byte, and what it says
+-- the line of a scan byte: the byte, and its output
 abbrev pub typed_line : ℕ → ℕ → KeyOut → List ℕ
 typed_line mode b out = line_text (hex_byte b ∷ line_words mode b out)
 
@@ -134,12 +129,10 @@ pub record GivesTyped (input : List ℕ) (outcome : Outcome) : Type 0 where
   pub tables : Tables
   pub read : type_table_of input ≡ Ok table
   pub compiled : AreTablesOf table.lines tables
-  pub written :
-      outcome ≡ record { status = Fine; text = typed_text tables table.mode table.keys }
+  pub written : outcome ≡ fine_text (typed_text tables table.mode table.keys)
 
 -- the table is refused at its first fault
 pub record GivesTableFault (input : List ℕ) (outcome : Outcome) : Type 0 where
   pub fault : TableFault
   pub found : type_table_of input ≡ Err fault
-  pub refused :
-      outcome ≡ record { status = Refused fault.kind fault.part fault.item; text = [] }
+  pub refused : outcome ≡ no_text (Refused fault.kind fault.part fault.item)

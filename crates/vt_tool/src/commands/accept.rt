@@ -1,22 +1,21 @@
 //! `accept`: whether the text after a session and its journal is the journal's certificate.
-ghost use Rattle.std.specs.Prelude.{◌≡◌, ◌∷◌, [], codes, decimal, IfOk, IsTrue};
+ghost use Rattle.std.specs.Prelude.{◌≡◌, ◌∷◌, [], codes, decimal, IfOk};
 ghost use Rattle.vt_journal.specs.Journal.{line_text};
 ghost use Rattle.vt_tool.specs.Commands.Accept.{IsAccepted, IsAnswered};
-ghost use Rattle.vt_tool.specs.Status.{is_command_status};
+ghost use Rattle.vt_tool.specs.Outcome.{fine_text};
 
 use crate::answer::Answer;
 use crate::commands::lines::add_number;
-use crate::status::Status;
 use session_text::Session;
 use std::alloc::Global;
 use vt_base::{Bytes, NoMemory};
 use vt_explain::{CertError, HopWhy, Judged, accept, read_cert};
 use vt_journal::Journal;
 
-/// The kind of a fault in a certificate.
+/// The fault code of a certificate.
 const BAD_CERT: u16 = 45;
 
-/// Why a journal is illegal whose certificate isn't accepted.
+/// The reason of status 8 if the certificate is not accepted.
 const BAD_ITEM: u8 = 6;
 
 /// Whether the text is the journal's certificate, or the text's first fault.
@@ -26,9 +25,7 @@ pub(crate) fn answer(
     journal: &Journal,
     cert: &[u8],
 ) -> Result<Answer, NoMemory>
-    ensures accepted { IfOk result (λ answer. IsAccepted cert.now session.now journal.now
-        (record { status = answer.status; text = answer.text.bytes })) }
-    ensures own { IfOk result (λ answer. IsTrue (is_command_status answer.status)) }
+    ensures { IfOk result (IsAccepted cert.now session.now journal.now) }
 {
     if cert.is_empty() {
         return Ok(Answer::refused(alloc, BAD_CERT, 0, 0));
@@ -47,9 +44,7 @@ fn answer_items(
     journal: &Journal,
     items: &[HopWhy],
 ) -> Result<Answer, NoMemory>
-    ensures answered { IfOk result (λ answer. IsAnswered items.now session.now journal.now
-        (record { status = answer.status; text = answer.text.bytes })) }
-    ensures own { IfOk result (λ answer. IsTrue (is_command_status answer.status)) }
+    ensures { IfOk result (IsAnswered items.now session.now journal.now) }
 {
     match accept(alloc, session, journal, items)? {
         Judged::Yes => answer_yes(alloc, items.len()),
@@ -59,9 +54,8 @@ fn answer_items(
 }
 
 fn answer_yes(alloc: Global, items: usize) -> Result<Answer, NoMemory>
-    ensures status { IfOk result (λ answer. answer.status ≡ Status.Fine) }
-    ensures text { IfOk result (λ answer. answer.text.bytes
-        ≡ line_text (codes "accepted" ∷ decimal items ∷ [])) }
+    ensures { IfOk result (λ answer. answer
+        ≡ fine_text (line_text (codes "accepted" ∷ decimal items ∷ []))) }
 {
     let mut text = Bytes::new(alloc);
     add_number(alloc, &mut text, b"accepted", items as u64)?;

@@ -1,12 +1,11 @@
 //! `check`: the verdict on the journal after a session.
-ghost use Rattle.std.specs.Prelude.{◌≡◌, IfOk, IsTrue};
+ghost use Rattle.std.specs.Prelude.{◌≡◌, IfOk};
 ghost use Rattle.vt_tool.specs.Commands.Check.{IsJudged, legal_text};
 ghost use Rattle.vt_tool.specs.Commands.Judged.{judged_text};
-ghost use Rattle.vt_tool.specs.Status.{is_command_status};
+ghost use Rattle.vt_tool.specs.Outcome.{fine_text};
 
 use crate::answer::Answer;
 use crate::commands::lines::add_number;
-use crate::status::Status;
 use session_order::session_laws;
 use session_text::Session;
 use std::alloc::Global;
@@ -20,21 +19,16 @@ pub(crate) fn answer(
     session: &Session,
     journal: &Journal,
 ) -> Result<Answer, NoMemory>
-    ensures judged { IfOk result (λ answer. IsJudged session.now journal.now
-        (record { status = answer.status; text = answer.text.bytes })) }
-    ensures own { IfOk result (λ answer. IsTrue (is_command_status answer.status)) }
+    ensures { IfOk result (IsJudged session.now journal.now) }
 {
     session_laws(session);
     let verdict = check(alloc, session, journal)?;
-    answer_told(alloc, verdict, journal.entries.as_slice().len())
+    answer_verdict(alloc, verdict, journal.entries.as_slice().len())
 }
 
-// What is told of the verdict on so many entries.
-fn answer_told(alloc: Global, verdict: Verdict, entries: usize) -> Result<Answer, NoMemory>
-    ensures told { IfOk result (λ answer.
-        record { status = answer.status; text = answer.text.bytes }
-        ≡ judged_text (legal_text entries) verdict) }
-    ensures own { IfOk result (λ answer. IsTrue (is_command_status answer.status)) }
+// The answer to the verdict on this many entries.
+fn answer_verdict(alloc: Global, verdict: Verdict, entries: usize) -> Result<Answer, NoMemory>
+    ensures { IfOk result (λ answer. answer ≡ judged_text (legal_text entries) verdict) }
 {
     match verdict {
         Verdict::Legal => answer_legal(alloc, entries),
@@ -43,8 +37,7 @@ fn answer_told(alloc: Global, verdict: Verdict, entries: usize) -> Result<Answer
 }
 
 fn answer_legal(alloc: Global, entries: usize) -> Result<Answer, NoMemory>
-    ensures status { IfOk result (λ answer. answer.status ≡ Status.Fine) }
-    ensures text { IfOk result (λ answer. answer.text.bytes ≡ legal_text entries) }
+    ensures { IfOk result (λ answer. answer ≡ fine_text (legal_text entries)) }
 {
     let mut text = Bytes::new(alloc);
     add_number(alloc, &mut text, b"legal", entries as u64)?;

@@ -1,23 +1,19 @@
-//! `cook`: the lines and signals that the input types, what is left of it, and its echo.
-ghost use Rattle.std.specs.Prelude.{◌≡◌, ◌++◌, IfOk, IsTrue, OnOk};
+//! `cook`: the lines and signals that the input types, the bytes that are left, and the echo.
+ghost use Rattle.std.specs.Prelude.{◌≡◌, ◌++◌, IfOk, OnOk};
 ghost use Rattle.std.specs.List.{flat_map};
 ghost use Rattle.cooked.specs.Given.{items_of};
-ghost use Rattle.vt_tool.specs.Commands.Cook.{bytes_line, cook_text, item_line};
-ghost use Rattle.vt_tool.specs.Status.{is_command_status};
+ghost use Rattle.vt_tool.specs.Commands.Cook.{GivesCooked, bytes_line, cook_text, item_line};
 
 use crate::answer::Answer;
 use crate::commands::lines::add_number;
-use crate::status::Status;
 use cooked::{Cooked, EchoBytes, Given, Termios, one_more};
 use std::alloc::Global;
 use vt_base::{Bytes, NoMemory};
 use vt_journal::{add, add_hex};
 
-/// A line for each item that the input gives, one for what is kept, and one for the echo.
+/// A line for each item that the input types, one for the bytes that are left, and one for the echo.
 pub(crate) fn answer(alloc: Global, input: &[u8]) -> Result<Answer, NoMemory>
-    ensures status { IfOk result (λ answer. answer.status ≡ Status.Fine) }
-    ensures text { IfOk result (λ answer. answer.text.bytes ≡ cook_text input.now) }
-    ensures own { IfOk result (λ answer. IsTrue (is_command_status answer.status)) }
+    ensures { IfOk result (GivesCooked input.now) }
 {
     Ok(Answer::fine(cook(alloc, input)?))
 }
@@ -41,7 +37,7 @@ fn cook(alloc: Global, typed: &[u8]) -> Result<Bytes, NoMemory>
     Ok(text)
 }
 
-// Adds the line of what a byte gives, if it gives something.
+// Adds the line of the item that a byte ends, if it ends one.
 fn add_given(alloc: Global, text: &mut Bytes, given: Given, line: &[u8]) -> Result<(), NoMemory>
     ensures { OnOk result (text.new.bytes
         ≡ text.old.bytes ++ flat_map item_line (items_of given line.now)) }

@@ -3,15 +3,15 @@ ghost use Rattle.vt_tool.specs.Commands.Cut.{BeginsLine, HasMark, IsCut, IsMarke
 
 use vt_journal::version_of;
 
-/// How the first line of a certificate begins (docs/EXPLAIN.md).
+/// The first word of a certificate (docs/EXPLAIN.md).
 const CERT_MARK: &[u8] = b"%explain ";
 
-/// What a line begins with before which an input is cut.
+/// The mark at the beginning of a line, before which an input is cut.
 #[derive(Clone, Copy)]
 pub(crate) enum CutMark {
     /// The first line of a journal (docs/JOURNAL.md).
     Journal,
-    /// The word of a certificate.
+    /// The first word of a certificate.
     Certificate,
 }
 
@@ -20,7 +20,7 @@ pub(crate) enum CutMark {
 pub(crate) struct CutInput<'a> {
     /// The text before that line.
     pub text: &'a [u8],
-    /// The text from there on; empty where the input has no such line.
+    /// That line and the text after it; empty if the input has no such line.
     pub after: &'a [u8],
 }
 

@@ -1,7 +1,6 @@
 //! `drill N SEED`: five numbers of the serial play of a session that is made from a number.
-ghost use Rattle.std.specs.Prelude.{◌≡◌, ◌≤◌, IfOk, IsTrue};
+ghost use Rattle.std.specs.Prelude.{◌≡◌, ◌≤◌, IfOk};
 ghost use Rattle.vt_tool.specs.Commands.Drill.{GivesDrill, drill_text, dropped_in};
-ghost use Rattle.vt_tool.specs.Status.{is_command_status};
 
 use crate::answer::Answer;
 use crate::commands::lines::add_number;
@@ -15,15 +14,13 @@ use vt_world::World;
 pub(crate) fn answer(alloc: Global, n: u32, seed: u64) -> Result<Answer, NoMemory>
     requires some { 1 ≤ n }
     requires few { n ≤ 10_000 }
-    ensures gives { IfOk result (λ answer. GivesDrill n seed
-        (record { status = answer.status; text = answer.text.bytes })) }
-    ensures own { IfOk result (λ answer. IsTrue (is_command_status answer.status)) }
+    ensures { IfOk result (GivesDrill n seed) }
 {
     let session = drill_session(alloc, n, seed)?;
     let run = play(alloc, &session)?;
     let text = numbers_of(alloc, &run)?;
     let status = status_of(&run.tail());
-    Ok(Answer { status, text })
+    Ok(Answer::new(status, text))
 }
 
 fn numbers_of(alloc: Global, run: &Run) -> Result<Bytes, NoMemory>
@@ -43,7 +40,7 @@ fn numbers_of(alloc: Global, run: &Run) -> Result<Bytes, NoMemory>
     Ok(text)
 }
 
-// How many pieces all queues dropped.
+// The number of pieces that all queues dropped.
 fn dropped(world: &World) -> u64
     ensures { result ≡ dropped_in world.now }
 {

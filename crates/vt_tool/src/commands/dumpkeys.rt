@@ -5,11 +5,10 @@ ghost use Rattle.key_dump.specs.Dump.{dump_of};
 ghost use Rattle.key_dump.specs.ReadsBack.{ReadsAs};
 ghost use Rattle.vt_tool.specs.Commands.Dump.{GivesDump};
 ghost use Rattle.vt_tool.specs.Commands.Keys.{GivesKeyFault};
-ghost use Rattle.vt_tool.specs.Status.{is_command_status};
+ghost use Rattle.vt_tool.specs.Outcome.{fine_text};
 
 use crate::answer::Answer;
 use crate::commands::keys::{answer_refused, tables_in};
-use crate::status::Status;
 use key_dump::dump;
 use key_tables::KeyTables;
 use key_text::KeyError;
@@ -18,10 +17,7 @@ use vt_base::NoMemory;
 
 /// The dump of the tables of the keymap text, or its first fault.
 pub(crate) fn answer(alloc: Global, input: &[u8]) -> Result<Answer, NoMemory>
-    ensures gives { IfOk result (λ answer.
-        GivesDump input.now (record { status = answer.status; text = answer.text.bytes })
-        ⊎ GivesKeyFault input.now (record { status = answer.status; text = answer.text.bytes })) }
-    ensures own { IfOk result (λ answer. IsTrue (is_command_status answer.status)) }
+    ensures { IfOk result (λ answer. GivesDump input.now answer ⊎ GivesKeyFault input.now answer) }
 {
     match tables_in(alloc, input) {
         Ok(tables) => answer_dumped(alloc, &tables),
@@ -32,9 +28,8 @@ pub(crate) fn answer(alloc: Global, input: &[u8]) -> Result<Answer, NoMemory>
 
 fn answer_dumped(alloc: Global, tables: &KeyTables) -> Result<Answer, NoMemory>
     requires { IsTrue (is_dumpable tables.now) }
-    ensures status { IfOk result (λ answer. answer.status ≡ Status.Fine) }
-    ensures text { IfOk result (λ answer. answer.text.bytes ≡ dump_of tables.now) }
-    ensures back { IfOk result (λ answer. ReadsAs answer.text.bytes tables.now) }
+    ensures dump { IfOk result (λ answer. answer ≡ fine_text (dump_of tables.now)) }
+    ensures back { IfOk result (λ answer. ReadsAs answer.text tables.now) }
 {
     Ok(Answer::fine(dump(alloc, tables)?))
 }

@@ -1,7 +1,7 @@
-//! What the commands do alike that read a session and a journal after it.
-ghost use Rattle.std.specs.Prelude.{◌≡◌, [], IfOk, IsTrue};
+//! The steps that the commands over a session and a journal have in common.
+ghost use Rattle.std.specs.Prelude.{◌≡◌, [], IfOk};
 ghost use Rattle.vt_tool.specs.Commands.Judging.{GivesAsked, IsFitAsked, IsParted, IsReadAs, MakesOf, column_of};
-ghost use Rattle.vt_tool.specs.Status.{is_command_status};
+ghost use Rattle.vt_tool.specs.Outcome.{no_text};
 
 use crate::answer::{Answer, refused};
 use crate::commands::cut::{CutInput, CutMark, cut};
@@ -14,13 +14,11 @@ use table_fields::TableError;
 use vt_base::NoMemory;
 use vt_journal::{JError, JFault, Journal, parse};
 
-/// What is made of the session and the text after it; or the first fault of the session, or else of
-/// that text.
+/// The answer to the request about the session and the text after it; or the first fault of the
+/// session, or else of that text.
 pub(crate) fn answer(alloc: Global, asked: JudgeRequest, input: &[u8]) -> Result<Answer, NoMemory>
     requires { IsFitAsked asked }
-    ensures gives { IfOk result (λ answer. GivesAsked asked input.now
-        (record { status = answer.status; text = answer.text.bytes })) }
-    ensures own { IfOk result (λ answer. IsTrue (is_command_status answer.status)) }
+    ensures { IfOk result (GivesAsked asked input.now) }
 {
     let parts = cut(CutMark::Journal, input);
     match read(alloc, parts.text) {
@@ -30,7 +28,7 @@ pub(crate) fn answer(alloc: Global, asked: JudgeRequest, input: &[u8]) -> Result
     }
 }
 
-// What comes of the text after a session.
+// The answer to the request about the text after a session.
 fn answer_read(
     alloc: Global,
     asked: JudgeRequest,
@@ -38,22 +36,17 @@ fn answer_read(
     after: &[u8],
 ) -> Result<Answer, NoMemory>
     requires { IsFitAsked asked }
-    ensures read { IfOk result (λ answer. IsReadAs asked session.now after.now
-        (record { status = answer.status; text = answer.text.bytes })) }
-    ensures own { IfOk result (λ answer. IsTrue (is_command_status answer.status)) }
+    ensures { IfOk result (IsReadAs asked session.now after.now) }
 {
     let parts = parts_for(asked, after);
     match parse(alloc, parts.text) {
-        Ok(journal) => {
-            let answer = make_of(alloc, asked, session, &journal, parts.after)?;
-            Ok(answer)
-        }
+        Ok(journal) => make_of(alloc, asked, session, &journal, parts.after),
         Err(JError::Fault(fault)) => Ok(answer_refused(alloc, fault)),
         Err(JError::NoMemory) => Err(NoMemory),
     }
 }
 
-// The journal, and the certificate after it where that is asked about.
+// The journal, and the certificate after it if the request is about one.
 fn parts_for(asked: JudgeRequest, after: &[u8]) -> CutInput<'_>
     ensures { IsParted asked after.now result.text.now result.after.now }
 {
@@ -66,7 +59,7 @@ fn parts_for(asked: JudgeRequest, after: &[u8]) -> CutInput<'_>
     }
 }
 
-// What is made of a journal, and of the text of a certificate.
+// The answer to the request about a journal and the text of a certificate.
 fn make_of(
     alloc: Global,
     asked: JudgeRequest,
@@ -75,9 +68,7 @@ fn make_of(
     cert: &[u8],
 ) -> Result<Answer, NoMemory>
     requires { IsFitAsked asked }
-    ensures makes { IfOk result (λ answer. MakesOf asked cert.now session.now journal.now
-        (record { status = answer.status; text = answer.text.bytes })) }
-    ensures own { IfOk result (λ answer. IsTrue (is_command_status answer.status)) }
+    ensures { IfOk result (MakesOf asked cert.now session.now journal.now) }
 {
     match asked {
         JudgeRequest::Verdict => check::answer(alloc, session, journal),
@@ -91,9 +82,7 @@ fn make_of(
 
 /// The answer to a journal that is refused at this fault.
 pub(crate) fn answer_refused(alloc: Global, fault: JFault) -> Answer
-    ensures status { result.status
-        ≡ Status.Refused fault.kind fault.line (column_of fault.line) }
-    ensures text { result.text.bytes ≡ [] }
+    ensures { result ≡ no_text (Status.Refused fault.kind fault.line (column_of fault.line)) }
 {
     let column = if fault.line == 0 { 0 } else { 1 };
     Answer::refused(alloc, fault.kind, fault.line, column)

@@ -1,9 +1,9 @@
 //! `keys`: the listing of the tables of a keymap text.
-ghost use Rattle.std.specs.Prelude.{◌≡◌, ◌⊎◌, [], IfOk, IsTrue};
+ghost use Rattle.std.specs.Prelude.{◌≡◌, ◌⊎◌, IfOk, IsTrue};
 ghost use Rattle.key_compile.specs.Dumpable.{is_dumpable};
 ghost use Rattle.key_tables.specs.Listing.{listing_of};
 ghost use Rattle.vt_tool.specs.Commands.Keys.{GivesKeyFault, GivesListing, ReadsKeymap};
-ghost use Rattle.vt_tool.specs.Status.{is_command_status};
+ghost use Rattle.vt_tool.specs.Outcome.{fine_text, no_text};
 
 use crate::answer::Answer;
 use crate::status::Status;
@@ -15,10 +15,7 @@ use vt_base::NoMemory;
 
 /// The listing of the tables of the keymap text, or its first fault.
 pub(crate) fn answer(alloc: Global, input: &[u8]) -> Result<Answer, NoMemory>
-    ensures gives { IfOk result (λ answer.
-        GivesListing input.now (record { status = answer.status; text = answer.text.bytes })
-        ⊎ GivesKeyFault input.now (record { status = answer.status; text = answer.text.bytes })) }
-    ensures own { IfOk result (λ answer. IsTrue (is_command_status answer.status)) }
+    ensures { IfOk result (λ answer. GivesListing input.now answer ⊎ GivesKeyFault input.now answer) }
 {
     match tables_in(alloc, input) {
         Ok(tables) => answer_listed(alloc, &tables),
@@ -37,16 +34,14 @@ pub(crate) fn tables_in(alloc: Global, input: &[u8]) -> Result<KeyTables, KeyErr
 }
 
 fn answer_listed(alloc: Global, tables: &KeyTables) -> Result<Answer, NoMemory>
-    ensures status { IfOk result (λ answer. answer.status ≡ Status.Fine) }
-    ensures text { IfOk result (λ answer. answer.text.bytes ≡ listing_of tables.now) }
+    ensures { IfOk result (λ answer. answer ≡ fine_text (listing_of tables.now)) }
 {
     Ok(Answer::fine(tables.listing(alloc)?))
 }
 
 /// The answer to a keymap text that is refused at this fault.
 pub(crate) fn answer_refused(alloc: Global, fault: KeyFault) -> Answer
-    ensures status { result.status ≡ Status.Refused fault.kind fault.line fault.column }
-    ensures text { result.text.bytes ≡ [] }
+    ensures { result ≡ no_text (Status.Refused fault.kind fault.line fault.column) }
 {
     Answer::refused(alloc, fault.kind, fault.line, fault.column)
 }

@@ -1,8 +1,7 @@
-//! `race`: the journal of a session whose callers have a thread each, and the console after it.
-ghost use Rattle.std.specs.Prelude.{◌⊎◌, IfOk, IsTrue};
+//! `race`: the journal of a session whose callers have a thread each, and the machine after it.
+ghost use Rattle.std.specs.Prelude.{◌⊎◌, IfOk};
 ghost use Rattle.vt_tool.specs.Commands.Race.{GivesRaced, IsRaced};
 ghost use Rattle.vt_tool.specs.Commands.Session.{GivesSessionFault};
-ghost use Rattle.vt_tool.specs.Status.{is_command_status};
 
 use crate::answer::{Answer, refused};
 use crate::commands::session::answer_run;
@@ -15,7 +14,7 @@ use table_fields::TableError;
 use vt_base::NoMemory;
 use vt_io::Gate;
 
-/// The journal of the run that the session's callers made, and the console after it; or the session's
+/// The journal of the run that the session's callers made, and the machine after it; or the session's
 /// first fault.
 pub(crate) fn answer<G: Gate + Sync, R: Threads + Wait + Sync>(
     rt: &R,
@@ -23,11 +22,7 @@ pub(crate) fn answer<G: Gate + Sync, R: Threads + Wait + Sync>(
     input: &[u8],
     gate: &G,
 ) -> Result<Answer, NoMemory>
-    ensures gives { IfOk result (λ answer.
-        GivesRaced input.now (record { status = answer.status; text = answer.text.bytes })
-        ⊎ GivesSessionFault input.now
-        (record { status = answer.status; text = answer.text.bytes })) }
-    ensures own { IfOk result (λ answer. IsTrue (is_command_status answer.status)) }
+    ensures { IfOk result (λ answer. GivesRaced input.now answer ⊎ GivesSessionFault input.now answer) }
 {
     match read(alloc, input) {
         Ok(session) => answer_raced(rt, alloc, &session, gate),
@@ -42,11 +37,9 @@ fn answer_raced<G: Gate + Sync, R: Threads + Wait + Sync>(
     session: &Session,
     gate: &G,
 ) -> Result<Answer, NoMemory>
-    ensures raced { IfOk result (λ answer. IsRaced session.now answer.status answer.text.bytes) }
-    ensures own { IfOk result (λ answer. IsTrue (is_command_status answer.status)) }
+    ensures { IfOk result (IsRaced session.now) }
 {
     let run = race_tables(rt, alloc, session, gate)?;
     let last = final_text_map(rt, alloc, &run)?;
-    let answer = answer_run(alloc, &run, last.as_slice())?;
-    Ok(answer)
+    answer_run(alloc, &run, last.as_slice())
 }

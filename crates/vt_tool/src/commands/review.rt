@@ -1,7 +1,6 @@
-//! `review K N`: what one ear is told of the journal after a session.
-ghost use Rattle.std.specs.Prelude.{◌≡◌, ◌≤◌, ◌-◌, ◌^◌, ◌==◌, [], ◌∷◌, if◌then◌else◌, IfOk, IsTrue};
+//! `review K N`: the notices of the journal after a session, for one ear.
+ghost use Rattle.std.specs.Prelude.{◌≡◌, ◌≤◌, ◌-◌, ◌^◌, ◌==◌, [], ◌∷◌, if◌then◌else◌, IfOk};
 ghost use Rattle.vt_tool.specs.Commands.Review.{IsReviewed, ear_of};
-ghost use Rattle.vt_tool.specs.Status.{is_command_status};
 
 use crate::answer::Answer;
 use session_text::Session;
@@ -10,7 +9,7 @@ use vt_base::NoMemory;
 use vt_journal::Journal;
 use vt_review::{Ear, EarTable, Listener, Notice, Reviewed, review};
 
-/// What an ear of these kinds and this console is told of the journal.
+/// The notices of the journal of these kinds and this console, or of all consoles if it is 0.
 pub(crate) fn answer(
     alloc: Global,
     kinds: u8,
@@ -19,10 +18,7 @@ pub(crate) fn answer(
     journal: &Journal,
 ) -> Result<Answer, NoMemory>
     requires { console ≤ 63 }
-    ensures reviewed { IfOk result (λ answer.
-        IsReviewed (ear_of kinds console) session.now journal.now
-        (record { status = answer.status; text = answer.text.bytes })) }
-    ensures own { IfOk result (λ answer. IsTrue (is_command_status answer.status)) }
+    ensures { IfOk result (IsReviewed (ear_of kinds console) session.now journal.now) }
 {
     let table = EarTable {
         kinds,
@@ -37,7 +33,7 @@ pub(crate) fn answer(
     )
 }
 
-// What an ear over this listener is told of the journal.
+// The notices of the journal for an ear over this listener.
 fn answer_by<F: Listener>(
     alloc: Global,
     f: F,
@@ -46,9 +42,7 @@ fn answer_by<F: Listener>(
     journal: &Journal,
 ) -> Result<Answer, NoMemory>
     requires { F.hears f table }
-    ensures reviewed { IfOk result (λ answer. IsReviewed table session.now journal.now
-        (record { status = answer.status; text = answer.text.bytes })) }
-    ensures own { IfOk result (λ answer. IsTrue (is_command_status answer.status)) }
+    ensures { IfOk result (IsReviewed table session.now journal.now) }
 {
     let ears = one_ear(alloc, f, table)?;
     match review(alloc, session, journal, ears.as_slice())? {

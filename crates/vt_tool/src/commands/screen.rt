@@ -1,7 +1,7 @@
 //! `screen R C`: the rows of a screen after the input.
-ghost use Rattle.std.specs.Prelude.{◌≡◌, IfOk, IsTrue};
+ghost use Rattle.std.specs.Prelude.{◌≡◌, IfOk};
 ghost use Rattle.vt_dump.specs.Rows.{rows_text};
-ghost use Rattle.vt_tool.specs.Status.{is_command_status};
+ghost use Rattle.vt_tool.specs.Outcome.{fine_text};
 ghost use Rattle.vt_tool.specs.Streaming.{GivesScreen};
 
 use crate::answer::Answer;
@@ -15,15 +15,13 @@ use vt_grid::Grid;
 use vt_io::Source;
 use vt_screen::{BLANK, Emu};
 
-/// The bytes that one read asks for at most.
+/// The most bytes that one read asks for.
 const PIECE_BYTES: usize = 4_096;
 
-/// Draws what the source gives on a blank screen of this size, or gives the status that comes in its
-/// place.
+/// Draws the bytes of the source on a blank screen of this size, or returns the status of a run
+/// without the screen.
 pub(crate) fn draw<S: Source>(alloc: Global, size: Size, src: &mut S) -> Result<Emu, Status>
-    ensures { GivesScreen size.rows size.cols
-        (record { told = S.left src.old; faults = S.faults src.old })
-        (record { told = S.left src.new; faults = S.faults src.new }) result }
+    ensures { GivesScreen size.rows size.cols (S.stream src.old) (S.stream src.new) result }
 {
     let Ok(grid) = Grid::blank(alloc, size, BLANK) else {
         return Err(Status::NoMemory);
@@ -39,9 +37,7 @@ pub(crate) fn draw<S: Source>(alloc: Global, size: Size, src: &mut S) -> Result<
 
 /// The rows of the screen.
 pub(crate) fn answer(alloc: Global, emu: &Emu) -> Result<Answer, NoMemory>
-    ensures status { IfOk result (λ answer. answer.status ≡ Status.Fine) }
-    ensures text { IfOk result (λ answer. answer.text.bytes ≡ rows_text emu.now.state.grid.cells) }
-    ensures own { IfOk result (λ answer. IsTrue (is_command_status answer.status)) }
+    ensures { IfOk result (λ answer. answer ≡ fine_text (rows_text emu.now.state.grid.cells)) }
 {
     Ok(Answer::fine(text_rows(alloc, emu.grid())?))
 }

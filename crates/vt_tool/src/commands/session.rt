@@ -1,8 +1,7 @@
-//! What the commands over sessions print alike.
-ghost use Rattle.std.specs.Prelude.{◌≡◌, ◌++◌, IfOk, IsTrue};
-ghost use Rattle.vt_journal.specs.Journal.{journal_text};
+//! The text that the commands over sessions have in common.
+ghost use Rattle.std.specs.Prelude.{◌≡◌, IfOk, IsTrue};
 ghost use Rattle.vt_journal.specs.Room.{tail_at};
-ghost use Rattle.vt_tool.specs.Commands.Session.{status_of};
+ghost use Rattle.vt_tool.specs.Commands.Session.{run_outcome, status_of};
 ghost use Rattle.vt_tool.specs.Status.{is_command_status};
 
 use crate::answer::Answer;
@@ -12,26 +11,19 @@ use std::alloc::Global;
 use vt_base::{Bytes, NoMemory};
 use vt_journal::{Tail, add, print};
 
-/// The journal of the run, and the text of the console after it.
+/// The journal of the run, and then this text of the machine after it.
 pub(crate) fn answer_run(alloc: Global, run: &Run, last: &[u8]) -> Result<Answer, NoMemory>
-    ensures status { IfOk result (λ answer. answer.status
-        ≡ status_of (tail_at run.now.log.entries run.now.stop)) }
-    ensures text { IfOk result (λ answer. answer.text.bytes
-        ≡ journal_text 2 run.now.log.entries (tail_at run.now.log.entries run.now.stop)
-        ++ last.now) }
-    ensures own { IfOk result (λ answer. IsTrue (is_command_status answer.status)) }
+    ensures { IfOk result (λ answer. answer
+        ≡ run_outcome run.now.log.entries (tail_at run.now.log.entries run.now.stop) last.now) }
 {
     let end = run.tail();
     let mut text = Bytes::new(alloc);
     print(alloc, run.log.entries(), 2, &end, &mut text)?;
     add(alloc, &mut text, last)?;
-    Ok(Answer {
-        status: status_of(&end),
-        text,
-    })
+    Ok(Answer::new(status_of(&end), text))
 }
 
-/// Fine where all programs are over, and JournalFull where a call found no room.
+/// Fine if all programs are over, and JournalFull if a call found no room.
 pub(crate) fn status_of(end: &Tail) -> Status
     ensures status { result ≡ status_of end.now }
     ensures own { IsTrue (is_command_status result) }

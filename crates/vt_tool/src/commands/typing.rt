@@ -1,7 +1,7 @@
-//! `type`: the keys that a table types, and what they say.
-ghost use Rattle.std.specs.Prelude.{◌≡◌, ◌≤◌, ◌⊎◌, IfOk, IsTrue};
+//! `type`: the keys that a table types, and their output.
+ghost use Rattle.std.specs.Prelude.{◌≡◌, ◌≤◌, ◌⊎◌, IfOk};
 ghost use Rattle.vt_tool.specs.Commands.Typing.{GivesTableFault, GivesTyped, typed_text};
-ghost use Rattle.vt_tool.specs.Status.{is_command_status};
+ghost use Rattle.vt_tool.specs.Outcome.{fine_text};
 
 mod lines;
 mod type_table;
@@ -10,17 +10,13 @@ mod typist;
 use crate::answer::{Answer, refused};
 use crate::commands::typing::lines::add_typed;
 use crate::commands::typing::type_table::{TypeTable, read_type_table};
-use crate::status::Status;
 use std::alloc::Global;
 use table_fields::TableError;
 use vt_base::{Bytes, NoMemory};
 
 /// A line for each scan byte of the table, or the table's first fault.
 pub(crate) fn answer(alloc: Global, input: &[u8]) -> Result<Answer, NoMemory>
-    ensures gives { IfOk result (λ answer.
-        GivesTyped input.now (record { status = answer.status; text = answer.text.bytes })
-        ⊎ GivesTableFault input.now (record { status = answer.status; text = answer.text.bytes })) }
-    ensures own { IfOk result (λ answer. IsTrue (is_command_status answer.status)) }
+    ensures { IfOk result (λ answer. GivesTyped input.now answer ⊎ GivesTableFault input.now answer) }
 {
     match read_type_table(alloc, input) {
         Ok(table) => answer_typed(alloc, &table),
@@ -31,9 +27,8 @@ pub(crate) fn answer(alloc: Global, input: &[u8]) -> Result<Answer, NoMemory>
 
 fn answer_typed(alloc: Global, table: &TypeTable) -> Result<Answer, NoMemory>
     requires { table.now.mode ≤ 4 }
-    ensures status { IfOk result (λ answer. answer.status ≡ Status.Fine) }
-    ensures text { IfOk result (λ answer. answer.text.bytes
-        ≡ typed_text table.now.tables table.now.mode table.now.keys.bytes) }
+    ensures { IfOk result (λ answer. answer
+        ≡ fine_text (typed_text table.now.tables table.now.mode table.now.keys.bytes)) }
 {
     let mut text = Bytes::new(alloc);
     add_typed(

@@ -1,13 +1,12 @@
 //! `upgrade`: a journal of version 1 in version 2.
-ghost use Rattle.std.specs.Prelude.{◌≡◌, true, false, IfOk, IsTrue};
+ghost use Rattle.std.specs.Prelude.{◌≡◌, true, false, IfOk};
 ghost use Rattle.vt_journal.specs.Journal.{journal_text};
 ghost use Rattle.vt_journal.specs.Says.{HasFirst};
 ghost use Rattle.vt_tool.specs.Commands.Upgrade.{GivesUpgraded};
-ghost use Rattle.vt_tool.specs.Status.{is_command_status};
+ghost use Rattle.vt_tool.specs.Outcome.{fine_text};
 
 use crate::answer::Answer;
 use crate::commands::judging::answer_refused;
-use crate::status::Status;
 use std::alloc::Global;
 use vt_base::{Bytes, NoMemory};
 use vt_journal::{JError, Journal, parse, print, version_of};
@@ -17,9 +16,7 @@ const NO_FIRST: u16 = 40;
 
 /// The journal in version 2, or its first fault: a journal of version 2 has no first line here.
 pub(crate) fn answer(alloc: Global, input: &[u8]) -> Result<Answer, NoMemory>
-    ensures gives { IfOk result (λ answer. GivesUpgraded input.now
-        (record { status = answer.status; text = answer.text.bytes })) }
-    ensures own { IfOk result (λ answer. IsTrue (is_command_status answer.status)) }
+    ensures { IfOk result (GivesUpgraded input.now) }
 {
     if is_newer(input) {
         return Ok(Answer::refused(alloc, NO_FIRST, 0, 0));
@@ -43,9 +40,8 @@ fn is_newer(input: &[u8]) -> bool
 }
 
 fn answer_printed(alloc: Global, journal: &Journal) -> Result<Answer, NoMemory>
-    ensures status { IfOk result (λ answer. answer.status ≡ Status.Fine) }
-    ensures text { IfOk result
-        (λ answer. answer.text.bytes ≡ journal_text 2 journal.now.entries journal.now.tail) }
+    ensures { IfOk result (λ answer. answer
+        ≡ fine_text (journal_text 2 journal.now.entries journal.now.tail)) }
 {
     let mut text = Bytes::new(alloc);
     print(

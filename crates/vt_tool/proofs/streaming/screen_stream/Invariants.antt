@@ -5,9 +5,9 @@ use Rattle.vt_tool.proofs.streaming.screen_stream.Given as goal
 
 abbrev pub invariant-reads : goal.invariant-reads
 invariant-reads g l = record {
-  drawn : HasDrawn (g.S.Source.left l.initial.src) (g.S.Source.left l.src) l.initial.emu l.emu screen_limit l.left;
-  later : g.S.Source.faults l.initial.src ≤ g.S.Source.faults l.src;
-  kept : g.S.Source.faults l.src ≡ g.S.Source.faults l.initial.src;
+  drawn : HasDrawn (g.S.Source.stream l.initial.src).bytes (g.S.Source.stream l.src).bytes l.initial.emu l.emu screen_limit l.left;
+  later : (g.S.Source.stream l.initial.src).faults ≤ (g.S.Source.stream l.src).faults;
+  kept : (g.S.Source.stream l.src).faults ≡ (g.S.Source.stream l.initial.src).faults;
 }
 
 abbrev pub decreases-reads : goal.decreases-reads

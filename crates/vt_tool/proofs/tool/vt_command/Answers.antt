@@ -2,60 +2,38 @@ use Rattle.std.proofs.Common.{map, string_bytes}
 use Rattle.vt_tool.proofs.Complete.{run_completes}
 use Rattle.vt_tool.proofs.Journals.{tells_displays}
 use Rattle.vt_tool.specs.Commands.{serial_forms}
-use Rattle.vt_tool.specs.Run.{Streams}
 use Rattle.vt_tool.proofs.tool.vt_command.Goals as goal
 
 pub returns-clause-complete : goal.returns-clause-complete
 returns-clause-complete g c =
-    let old : Streams = record {
-      src =
-          record { told = g.S.Source.left c.args.src.now; faults = g.S.Source.faults c.args.src.now };
-      out = record { told = g.O.Sink.held c.args.out.now; faults = g.O.Sink.faults c.args.out.now };
-      err = record { told = g.E.Sink.held c.args.err.now; faults = g.E.Sink.faults c.args.err.now };
-    } in
-    let new : Streams = record {
-      src = record {
-        told = g.S.Source.left c.begin-first.new.src;
-        faults = g.S.Source.faults c.begin-first.new.src;
-      };
-      out = record {
-        told = g.O.Sink.held c.begin-first.new.out;
-        faults = g.O.Sink.faults c.begin-first.new.out;
-      };
-      err = record { told = g.E.Sink.held c.write_status.new.err; faults = g.E.Sink.faults c.write_status.new.err };
-    } in
-    run_completes serial_forms (map string_bytes c.args.words.now) old new c.write_status.result
+    run_completes serial_forms (map string_bytes c.args.words.now)
     (record {
-      first = c.begin-first.result;
-      begins = c.begin-first.ensures;
-      tells = c.write_status.ensures;
+      src = g.S.Source.stream c.args.src.now;
+      out = g.O.Sink.stream c.args.out.now;
+      err = g.E.Sink.stream c.args.err.now;
     })
+    (record {
+      src = g.S.Source.stream c.begin-first.new.src;
+      out = g.O.Sink.stream c.begin-first.new.out;
+      err = g.E.Sink.stream c.write_status.new.err;
+    })
+    c.write_status.result
+    (record { first = c.begin-first.result; begins = c.begin-first.ensures; tells = c.write_status.ensures })
 
 pub returns-clause-displays : goal.returns-clause-displays
 returns-clause-displays g c =
-    let old : Streams = record {
-      src =
-          record { told = g.S.Source.left c.args.src.now; faults = g.S.Source.faults c.args.src.now };
-      out = record { told = g.O.Sink.held c.args.out.now; faults = g.O.Sink.faults c.args.out.now };
-      err = record { told = g.E.Sink.held c.args.err.now; faults = g.E.Sink.faults c.args.err.now };
-    } in
-    let new : Streams = record {
-      src = record {
-        told = g.S.Source.left c.begin-first.new.src;
-        faults = g.S.Source.faults c.begin-first.new.src;
-      };
-      out = record {
-        told = g.O.Sink.held c.begin-first.new.out;
-        faults = g.O.Sink.faults c.begin-first.new.out;
-      };
-      err = record { told = g.E.Sink.held c.write_status.new.err; faults = g.E.Sink.faults c.write_status.new.err };
-    } in
     tells_displays c.displays_are_lawful.ensures.acts c.displays_are_lawful.ensures.calls
     c.displays_are_lawful.ensures.told c.displays_are_lawful.ensures.hops
-    c.refused_calls_change_nothing.ensures.refused serial_forms (map string_bytes c.args.words.now) old new
-    c.write_status.result
+    c.refused_calls_change_nothing.ensures.refused serial_forms (map string_bytes c.args.words.now)
     (record {
-      first = c.begin-first.result;
-      begins = c.begin-first.ensures;
-      tells = c.write_status.ensures;
+      src = g.S.Source.stream c.args.src.now;
+      out = g.O.Sink.stream c.args.out.now;
+      err = g.E.Sink.stream c.args.err.now;
     })
+    (record {
+      src = g.S.Source.stream c.begin-first.new.src;
+      out = g.O.Sink.stream c.begin-first.new.out;
+      err = g.E.Sink.stream c.write_status.new.err;
+    })
+    c.write_status.result
+    (record { first = c.begin-first.result; begins = c.begin-first.ensures; tells = c.write_status.ensures })

@@ -43,7 +43,7 @@ fn add_line(alloc: Global, text: &mut Bytes, mode: u8, b: u8, out: &KeyOut) -> R
     add(alloc, text, b"\n")
 }
 
-// The words of what a key says, each after a blank.
+// The words for the output of a key, each after a blank.
 fn add_out(alloc: Global, text: &mut Bytes, out: &KeyOut) -> Result<(), NoMemory>
     ensures { OnOk result (text.new.bytes ≡ text.old.bytes ++ blank_before_each (out_words out.now)) }
 {

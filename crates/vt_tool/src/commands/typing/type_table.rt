@@ -9,23 +9,21 @@ ghost use Rattle.vt_tool.specs.Commands.Typing.{is_type_key, type_table_at, type
 
 use key_tables::KeyTables;
 use std::alloc::Global;
+use table_fields::fault_code::UNKNOWN_KEY;
 use table_fields::{
     Numbers, TableError, at, document, keymap, number, refused, scan_bytes, text, texts,
 };
 use toml::Table;
 use vt_base::Bytes;
 
-/// A key that isn't known.
-const UNKNOWN_KEY: u16 = 21;
-
-/// The keyboard modes; K_UNICODE where none is given (ioctl_console(2), KDSKBMODE).
+/// The keyboard modes, by default K_UNICODE (ioctl_console(2), KDSKBMODE).
 const MODES: Numbers = Numbers {
     default: 3,
     low: 0,
     high: 4,
 };
 
-/// What `type` reads: the keyboard mode, the tables of the keymap, and the scan bytes.
+/// The input of `type`: the keyboard mode, the tables of the keymap, and the scan bytes.
 #[derive(Drop)]
 pub(crate) struct TypeTable {
     pub mode: u8,
@@ -33,7 +31,7 @@ pub(crate) struct TypeTable {
     pub keys: Bytes,
 }
 
-/// The table that the text says, or its first fault.
+/// The table of the text, or its first fault.
 pub(crate) fn read_type_table(alloc: Global, input: &[u8]) -> Result<TypeTable, TableError>
     ensures table { GivesBy IsReadAs result (type_table_of input.now) }
     ensures mode { IfOk result (λ table. table.mode ≤ 4) }

@@ -3,18 +3,10 @@ ghost use Rattle.key_tables.specs.Tables.{Tables};
 ghost use Rattle.vt_tool.specs.Commands.Typed.{HasTyped};
 ghost use Rattle.vt_tool.specs.Commands.Typing.{said_after};
 
-use key_machine::{KbState, KeyModes, KeyOut, Keyboard};
+use key_machine::{KbState, KeyOut, Keyboard, START_MODES};
 use key_tables::KeyTables;
 use scan_codes::Scanner;
 use std::marker::Model;
-
-/// The modes of a start screen.
-const START_MODES: KeyModes = KeyModes {
-    cursor: false,
-    keypad: false,
-    repeat: true,
-    newline: false,
-};
 
 /// A keyboard whose scan bytes are typed on a start screen.
 #[derive(Drop)]
@@ -47,7 +39,7 @@ impl Typist {
         }
     }
 
-    /// Types a scan byte. The answer is what it says.
+    /// Types a scan byte, and returns the output of the key that it ends.
     pub(crate) fn take(&mut self, tables: &KeyTables, b: u8) -> KeyOut
         ensures typed { (mode : ℕ) (before : List ℕ) → HasTyped tables.now mode before self.old
             → HasTyped tables.now mode (before ++ b ∷ []) self.new }

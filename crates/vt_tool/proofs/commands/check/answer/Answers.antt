@@ -9,13 +9,13 @@ use Rattle.vt_tool.specs.Commands.Check.{legal_text}
 use Rattle.vt_tool.specs.Commands.Judged.{judged_text}
 use Rattle.vt_tool.proofs.commands.check.answer.Goals as goal
 
-pub returns-clause-judged : goal.returns-clause-judged
-returns-clause-judged c =
+pub returns : goal.returns
+returns c =
     let s : SessionView = c.args.session.now in
     let entries : List Entry = c.args.journal.now.entries in
     let end : Tail = c.args.journal.now.tail in
     let facts = c.in_ok-verdict.ensures in
-    ok_more _ _ c.answer_told.result
+    ok_more _ _ c.answer_verdict.result
     (λ answer is. record {
       verdict = c.in_ok-verdict.verdict;
       judged = facts.judges;
@@ -24,4 +24,4 @@ returns-clause-judged c =
           c.session_laws.ensures.right entries end right.legal right.follows right.ends;
       is = is
           ∙ ap (λ n. judged_text (legal_text n) c.in_ok-verdict.verdict) (ap length c.as_slice.ensures.same);
-    }) c.answer_told.ensures.told
+    }) c.answer_verdict.ensures

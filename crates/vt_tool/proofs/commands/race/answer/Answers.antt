@@ -2,8 +2,8 @@ use Rattle.std.proofs.Common.{inl}
 use Rattle.vt_tool.proofs.Oks.{ok_more}
 use Rattle.vt_tool.proofs.commands.race.answer.Goals as goal
 
-pub returns-in-Ok-clause-gives : goal.returns-in-Ok-clause-gives
-returns-in-Ok-clause-gives g c =
+pub returns-in-Ok : goal.returns-in-Ok
+returns-in-Ok g c =
     let (value, said, is) = c.in-Ok.ensures in
     ok_more _ _ c.answer_raced.result
     (λ answer raced. inl (record {
@@ -12,4 +12,4 @@ returns-in-Ok-clause-gives g c =
       said = said;
       is = is;
       raced = raced;
-    })) c.answer_raced.ensures.raced
+    })) c.answer_raced.ensures

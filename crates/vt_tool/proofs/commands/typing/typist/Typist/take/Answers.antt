@@ -1,8 +1,8 @@
 use Rattle.std.proofs.Common.{sym, ap, ◌∙◌}
+use Rattle.key_machine.specs.Keys.{start_modes}
 use Rattle.key_machine.specs.Step.{key_step}
 use Rattle.scan_codes.specs.Scan.{bytes_after, event_after}
 use Rattle.vt_tool.specs.Commands.Typed.{TypistView}
-use Rattle.vt_tool.specs.Commands.Typing.{start_modes}
 use Rattle.vt_tool.proofs.Typed.{typing_step_none, typing_step_some}
 use Rattle.vt_tool.proofs.commands.typing.typist.Typist.take.Goals as goal
 
