@@ -7,9 +7,9 @@ OUT is a folder that tools/build_c.sh filled (out/c in the clone). The programs 
 libtsm.c over the same engines/screen.h, compiled by cc -O3; an engine that isn't installed is left out. Each reads the
 first MiB of the ten kinds of text of inputs.py (`scroll` an eighth, `erase` and `lines` a sixteenth) at 25 by 80, and
 callgrind counts, less what an empty input takes. `single bytes` is libvt.c with a call for every byte; what that takes
-more than in long pieces is a call's own cost. Prints a table, the greatest ratio to `vt screen`, and the instructions of
-`vt_keys_scan` for three keys and for a byte that types none (engines/keys.c); the status is 1 if that ratio is over
-RATIO, or if the rows of libvt aren't those of `vt screen`.
+more than in long pieces is a call's own cost. Prints a table, the greatest ratio to `vt screen`, and what a scan byte
+of `vt_keys_scan` takes for three keys and for a byte that types none (engines/keys.c); the status is 1 if that ratio is
+over RATIO, or if the rows of libvt aren't those of `vt screen`.
 """
 import argparse
 import os

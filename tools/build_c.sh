@@ -85,7 +85,7 @@ for crate in screen_c keys_c; do
     archive=$top/crates/$crate/out/lib$crate.a
     if [ -n "$gate" ] && is_of_gate "$crate"; then
         build_over_gate "$crate" > "$work/log" 2>&1 ||
-            { tail -n 20 "$work/log" >&2; stop "crates/$crate isn't proved over what rt ci left"; }
+            { tail -n 20 "$work/log" >&2; stop "crates/$crate isn't built over what rt ci left"; }
     elif [ -z "$built" ]; then
         echo "build_c.sh: rt lib in crates/$crate; the first proof of the crates below takes minutes" >&2
         (cd "$top/crates/$crate" && rt lib) > "$work/log" 2>&1 ||
