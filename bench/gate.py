@@ -27,24 +27,26 @@ KINDS = ("proof", "tests", "edits")
 
 
 def processes():
-    """Each process that can be read: its number, its parent's, its processor time in seconds, and its words."""
+    """Each process that can be read: its number, its parent's, its processor time in seconds, its words, its folder."""
     for folder in PROC.iterdir():
         if not folder.name.isdigit():
             continue
         try:
             fields = (folder / "stat").read_text().rpartition(")")[2].split()
             words = (folder / "cmdline").read_bytes().decode(errors="replace").split("\0")
+            place = os.readlink(folder / "cwd")
         except (OSError, ValueError):
             continue                                # it has ended
-        yield int(folder.name), int(fields[1]), (int(fields[11]) + int(fields[12])) / TICKS, words
+        yield int(folder.name), int(fields[1]), (int(fields[11]) + int(fields[12])) / TICKS, words, place
 
 
-def work_of(words):
-    """The crate and the kind of work of a prover's words; none for another program."""
+def work_of(words, place):
+    """The crate and the kind of work of a prover's words; none for another program. `rt` tries an edit in a folder of
+    its own, whose name begins with "rt-edit-"."""
     if not words or pathlib.Path(words[0]).name != "rattle" or "--crate-name" not in words[:-1]:
         return None
     crate = words[words.index("--crate-name") + 1]
-    if words[1:2] == ["check"]:
+    if "rt-edit-" in place:
         return crate, "edits"
     return crate, "tests" if "--test" in words else "proof"
 
@@ -52,7 +54,7 @@ def work_of(words):
 def below(root, found):
     """The processes that descend from `root`."""
     children = collections.defaultdict(list)
-    for number, parent, _, _ in found:
+    for number, parent, *_ in found:
         children[parent].append(number)
     reached, left = set(), [root]
     while left:
@@ -68,8 +70,8 @@ def sample(root, ended, times):
     while not ended.wait(1):
         found = list(processes())
         own = below(root, found)
-        for number, _, seconds, words in found:
-            work = work_of(words)
+        for number, _, seconds, words, place in found:
+            work = work_of(words, place)
             if number in own and work:
                 times[number, work] = max(seconds, times.get((number, work), 0))
 
