@@ -149,7 +149,16 @@ fn tell_screen<F: Listener>(
         return tell_rows(alloc, text, ears, e, console, None, None, screen.grid());
     };
     let changed = changed_rows(old, &entry.event);
-    tell_rows(alloc, text, ears, e, console, changed, Some(old.grid()), screen.grid())
+    tell_rows(
+        alloc,
+        text,
+        ears,
+        e,
+        console,
+        changed,
+        Some(old.grid()),
+        screen.grid(),
+    )
 }
 
 // The rows of the screen that the event may change, if they are known.

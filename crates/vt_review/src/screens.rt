@@ -58,9 +58,7 @@ fn new_row(
         (is_text (slice_get (texts_of (option_copied before.entry)) y) (row_text (row_at after.now y)) ≡ true)) }
 {
     match before {
-        Some(before) if y < before.size().rows => {
-            changed_row(alloc, changed, before, after, y)
-        }
+        Some(before) if y < before.size().rows => { changed_row(alloc, changed, before, after, y) }
         _ => Ok(Some(text_row(alloc, after, y)?)),
     }
 }

@@ -37,8 +37,8 @@ come_further cols bottom first at next m bytes i within moves come =
       order = omega (arith, come.order, moves.0);
       same =
           λ k outside.
-              let both = wider first at.y next.y k come.order moves.0 outside in
-              after.2 k both.1 ∙ come.same k both.0;
+          let both = wider first at.y next.y k come.order moves.0 outside in
+          after.2 k both.1 ∙ come.same k both.0;
     }
 
 -- after all bytes
@@ -48,7 +48,7 @@ all_come cols bottom first at m bytes i all come =
     let done : come.now ≡ run_from m bytes =
     ap (λ (left : List ℕ). run screen_effects left come.now) (sym (drop_all i bytes all)) ∙ come.runs in
     λ k outside.
-        ap (λ (now : Reached ScreenAndOuts). row_at now.state.screen.grid k) (sym done) ∙ come.same k outside
+    ap (λ (now : Reached ScreenAndOuts). row_at now.state.screen.grid k) (sym done) ∙ come.same k outside
 
 -- no bytes
 pub no_text : (text : List ℕ) → is_empty text ≡ true → text ≡ []
