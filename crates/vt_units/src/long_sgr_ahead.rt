@@ -28,7 +28,6 @@ pub(crate) fn long_sgr_ahead(b: &[u8]) -> Option<LongSgr>
 
 #[inline(always)]
 fn opened_long_sgr(b: &[u8]) -> Option<LongSgr>
-    requires short { length b.now ≤ 256 }
     ensures sequence { IfSome result (λ longer. opened_ahead b.now ≡ Some (sgr_in longer)) }
     ensures within { IfSome result (λ longer. longer.count ≤ length b.now) }
     ensures exact { MatchOption result (begins_longer b.now ≡ false) (λ _. begins_longer b.now ≡ true) }
@@ -73,7 +72,6 @@ fn begins_colour(b: &[u8]) -> bool
 #[tactic(auto, using(crate::proofs::ShortSequences::goes_none, crate::proofs::ShortSequences::goes_on))]
 fn two_digits_at(b: &[u8], at: usize) -> u16
     requires within { at + 2 ≤ length b.now }
-    requires short { length b.now ≤ 256 }
     requires first { is_digit (slice_index b.now at) ≡ true }
     requires second { is_digit (slice_index b.now (at + 1)) ≡ true }
     ensures goes { Goes b.now 0 at result (at + 2) }
@@ -86,7 +84,6 @@ fn two_digits_at(b: &[u8], at: usize) -> u16
 #[tactic(auto, using(crate::proofs::ShortSequences::goes_none, crate::proofs::ShortSequences::goes_on))]
 fn digit_at(b: &[u8], at: usize) -> u16
     requires within { at < length b.now }
-    requires short { length b.now ≤ 256 }
     requires digit { is_digit (slice_index b.now at) ≡ true }
     ensures goes { Goes b.now 0 at result (at + 1) }
 {
@@ -108,7 +105,6 @@ fn three_numbers(b: &[u8], first: u16, second: u16, third: u16, end: usize) -> O
     requires few { end ≤ 10 }
     requires stops { is_digit (slice_index b.now end) ≡ true → end ≡ 10 }
     requires within { 19 ≤ length b.now }
-    requires short { length b.now ≤ 256 }
     ensures sequence { IfSome result (λ longer. opened_ahead b.now ≡ Some (sgr_in longer)) }
     ensures within { IfSome result (λ longer. longer.count ≤ length b.now) }
     ensures exact { MatchOption result (begins_longer b.now ≡ false) (λ _. begins_longer b.now ≡ true) }
@@ -141,7 +137,6 @@ fn five_numbers(b: &[u8], first: u16, second: u16, third: u16, end: usize) -> Op
     requires few { end ≤ 10 }
     requires stops { is_digit (slice_index b.now end) ≡ true → end ≡ 10 }
     requires within { 19 ≤ length b.now }
-    requires short { length b.now ≤ 256 }
     ensures sequence { IfSome result (λ longer. opened_ahead b.now ≡ Some (sgr_in longer)) }
     ensures within { IfSome result (λ longer. longer.count ≤ length b.now) }
     ensures exact { MatchOption result (begins_longer b.now ≡ false) (λ _. begins_longer b.now ≡ true) }

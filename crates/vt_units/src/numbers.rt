@@ -29,7 +29,6 @@ pub(crate) fn params_of(body: &[u8]) -> Params
 /// Reads the digits and semicolons at the start of the text, and returns their number.
 pub(crate) fn read_numbers(text: &[u8], params: &mut Params) -> usize
     requires none { params.old ≡ [] }
-    requires short { length text.now ≤ 256 }
     ensures params { params.new ≡ params_of (longest_prefix is_parameter text.now) }
     ensures count { result ≡ length (longest_prefix is_parameter text.now) }
     ensures rest { drop result text.now ≡ after_prefix is_parameter text.now }

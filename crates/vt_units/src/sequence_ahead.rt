@@ -22,7 +22,6 @@ pub(crate) fn sequence_ahead(b: &[u8], params: &mut Params) -> WholeSequence
 
 fn opened_ahead(b: &[u8], params: &mut Params) -> WholeSequence
     requires none { params.old ≡ [] }
-    requires short { length b.now ≤ 256 }
     ensures sequence { sequence_of result params.new ≡ opened_ahead b.now }
     ensures parameters { params.new ≡ parameters_ahead (opened_ahead b.now) }
 {
@@ -35,7 +34,6 @@ fn opened_ahead(b: &[u8], params: &mut Params) -> WholeSequence
 // The sequence that goes on after ESC.
 fn escape_ahead(b: u8, more: &[u8], params: &mut Params) -> WholeSequence
     requires none { params.old ≡ [] }
-    requires short { length more.now ≤ 256 }
     ensures sequence { sequence_of result params.new ≡ escape_ahead b more.now }
     ensures parameters { params.new ≡ parameters_ahead (escape_ahead b more.now) }
 {
@@ -72,7 +70,6 @@ fn mid_ahead(mid: u8, more: &[u8]) -> WholeSequence
 // The sequence that goes on after ESC [.
 fn control_ahead(text: &[u8], params: &mut Params) -> WholeSequence
     requires none { params.old ≡ [] }
-    requires short { length text.now ≤ 256 }
     ensures sequence { sequence_of result params.new ≡ control_ahead text.now }
     ensures parameters { params.new ≡ parameters_ahead (control_ahead text.now) }
 {
@@ -87,7 +84,6 @@ fn control_ahead(text: &[u8], params: &mut Params) -> WholeSequence
 fn numbers_ahead(private: bool, before: usize, text: &[u8], params: &mut Params) -> WholeSequence
     requires none { params.old ≡ [] }
     requires few { before ≤ 3 }
-    requires short { length text.now ≤ 256 }
     ensures sequence { sequence_of result params.new ≡ numbers_ahead private before text.now }
     ensures parameters { params.new ≡ parameters_ahead (numbers_ahead private before text.now) }
 {

@@ -28,7 +28,6 @@ pub(crate) fn short_csi_ahead(b: &[u8]) -> Option<ShortCsi>
 
 #[inline(always)]
 fn opened_short_csi(b: &[u8]) -> Option<ShortCsi>
-    requires short { length b.now ≤ 256 }
     ensures sequence { IfSome result (λ brief. opened_ahead b.now ≡ Some (csi_in brief)) }
     ensures within { IfSome result (λ brief. brief.count ≤ length b.now) }
     ensures exact { MatchOption result (begins_short b.now ≡ false) (λ _. begins_short b.now ≡ true) }
@@ -61,7 +60,6 @@ fn one_number(b: &[u8], first: u16, at: usize) -> Option<ShortCsi>
     requires stops { is_digit (slice_index b.now at) ≡ true → at ≡ 5 }
     requires last { (slice_index b.now at == 0x3B) ≡ false }
     requires within { at + 1 ≤ length b.now }
-    requires short { length b.now ≤ 256 }
     ensures sequence { IfSome result (λ brief. opened_ahead b.now ≡ Some (csi_in brief)) }
     ensures within { IfSome result (λ brief. brief.count ≤ length b.now) }
     ensures exact { MatchOption result (begins_short b.now ≡ false) (λ _. begins_short b.now ≡ true) }
@@ -92,7 +90,6 @@ fn two_numbers(b: &[u8], first: u16, second: u16, at: usize, end: usize) -> Opti
     requires more { end ≤ at + 4 }
     requires stops { is_digit (slice_index b.now end) ≡ true → end ≡ at + 4 }
     requires within { end + 1 ≤ length b.now }
-    requires short { length b.now ≤ 256 }
     ensures sequence { IfSome result (λ brief. opened_ahead b.now ≡ Some (csi_in brief)) }
     ensures within { IfSome result (λ brief. brief.count ≤ length b.now) }
     ensures exact { MatchOption result (begins_short b.now ≡ false) (λ _. begins_short b.now ≡ true) }
@@ -114,7 +111,6 @@ fn two_numbers(b: &[u8], first: u16, second: u16, at: usize, end: usize) -> Opti
 #[tactic(auto, using(crate::proofs::ShortSequences::goes_none, crate::proofs::ShortSequences::goes_on))]
 pub(crate) fn number_at(b: &[u8], at: usize) -> (u16, usize)
     requires within { at + 4 ≤ length b.now }
-    requires short { length b.now ≤ 256 }
     ensures goes { Goes b.now 0 at result.0 result.1 }
     ensures low { at ≤ result.1 }
     ensures high { result.1 ≤ at + 3 }
