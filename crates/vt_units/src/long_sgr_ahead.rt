@@ -1,13 +1,12 @@
 //! SGR that sets one colour, at the start of a text, read without a list of its parameters.
-ghost use Rattle.std.specs.Prelude.{◌≡◌, ◌≢◌, ◌≤◌, ◌<◌, ◌+◌, false, true, length, slice_index, take, Some, IfSome, MatchOption};
-ghost use Rattle.vt_units.specs.WholeSequence.{opened_ahead, sequence_ahead};
+ghost use Rattle.std.specs.Prelude.{◌≡◌, ◌≢◌, ◌≤◌, ◌<◌, ◌+◌, false, true, length, slice_index, Some, IfSome, MatchOption};
+ghost use Rattle.vt_units.specs.WholeSequence.{opened_ahead};
 ghost use Rattle.vt_units.specs.ShortForms.{begins_colour, begins_longer};
 ghost use Rattle.vt_units.specs.ShortSequences.{Begun, Goes, sgr_in};
 ghost use Rattle.vt_units.specs.Bytes.{is_digit};
 
 use crate::LongSgr;
 use crate::bytes::is_within;
-use crate::pending_bytes::SEQUENCE_BYTES;
 use crate::short_csi_ahead::{number_at, with_digit};
 
 /// The most bytes of such a sequence: ESC, `[`, 38 and 2 each with a `;` after it, three numbers of three
@@ -18,18 +17,7 @@ const LONG_SGR_BYTES: usize = 19;
 /// of at most three digits.
 #[inline(always)]
 pub(crate) fn long_sgr_ahead(b: &[u8]) -> Option<LongSgr>
-    ensures sequence { IfSome result (λ longer. sequence_ahead b.now ≡ Some (sgr_in longer)) }
-    ensures within { IfSome result (λ longer. longer.count ≤ length b.now) }
-    ensures exact { MatchOption result (begins_longer (take 256 b.now) ≡ false)
-        (λ _. begins_longer (take 256 b.now) ≡ true) }
-{
-    opened_long_sgr(&b[..b.len().min(SEQUENCE_BYTES)])
-}
-
-#[inline(always)]
-fn opened_long_sgr(b: &[u8]) -> Option<LongSgr>
     ensures sequence { IfSome result (λ longer. opened_ahead b.now ≡ Some (sgr_in longer)) }
-    ensures within { IfSome result (λ longer. longer.count ≤ length b.now) }
     ensures exact { MatchOption result (begins_longer b.now ≡ false) (λ _. begins_longer b.now ≡ true) }
 {
     if b.len() < LONG_SGR_BYTES || !begins_colour(b) {
@@ -106,7 +94,6 @@ fn three_numbers(b: &[u8], first: u16, second: u16, third: u16, end: usize) -> O
     requires stops { is_digit (slice_index b.now end) ≡ true → end ≡ 10 }
     requires within { 19 ≤ length b.now }
     ensures sequence { IfSome result (λ longer. opened_ahead b.now ≡ Some (sgr_in longer)) }
-    ensures within { IfSome result (λ longer. longer.count ≤ length b.now) }
     ensures exact { MatchOption result (begins_longer b.now ≡ false) (λ _. begins_longer b.now ≡ true) }
 {
     if b[end] != b'm' {
@@ -138,7 +125,6 @@ fn five_numbers(b: &[u8], first: u16, second: u16, third: u16, end: usize) -> Op
     requires stops { is_digit (slice_index b.now end) ≡ true → end ≡ 10 }
     requires within { 19 ≤ length b.now }
     ensures sequence { IfSome result (λ longer. opened_ahead b.now ≡ Some (sgr_in longer)) }
-    ensures within { IfSome result (λ longer. longer.count ≤ length b.now) }
     ensures exact { MatchOption result (begins_longer b.now ≡ false) (λ _. begins_longer b.now ≡ true) }
 {
     if b[end] != b';' {

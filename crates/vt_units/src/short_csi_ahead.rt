@@ -1,5 +1,5 @@
 //! A short sequence at the start of a text, read without a list of its parameters.
-ghost use Rattle.std.specs.Prelude.{◌≡◌, ◌==◌, ◌≤◌, ◌+◌, ◌*◌, length, slice_index, take, false, true, Some, IfSome, MatchOption};
+ghost use Rattle.std.specs.Prelude.{◌≡◌, ◌==◌, ◌≤◌, ◌+◌, ◌*◌, length, slice_index, false, true, Some, IfSome, MatchOption};
 ghost use Rattle.vt_units.specs.WholeSequence.{ends_control, opened_ahead, sequence_ahead};
 ghost use Rattle.vt_units.specs.ShortForms.{begins_short, begins_escape, is_short_end};
 ghost use Rattle.vt_units.specs.ShortSequences.{Begun, Goes, csi_in};
@@ -9,7 +9,6 @@ ghost use Rattle.vt_units.specs.declared.unit.Unit.TheVariants.{Esc};
 
 use crate::ShortCsi;
 use crate::bytes::{is_digit, is_within};
-use crate::pending_bytes::SEQUENCE_BYTES;
 
 /// The most bytes of such a sequence: ESC, `[`, two numbers of three digits, `;` and the last byte.
 const SHORT_CSI_BYTES: usize = 10;
@@ -18,18 +17,7 @@ const SHORT_CSI_BYTES: usize = 10;
 /// the text has as many bytes as the longest such sequence.
 #[inline(always)]
 pub(crate) fn short_csi_ahead(b: &[u8]) -> Option<ShortCsi>
-    ensures sequence { IfSome result (λ brief. sequence_ahead b.now ≡ Some (csi_in brief)) }
-    ensures within { IfSome result (λ brief. brief.count ≤ length b.now) }
-    ensures exact { MatchOption result (begins_short (take 256 b.now) ≡ false)
-        (λ _. begins_short (take 256 b.now) ≡ true) }
-{
-    opened_short_csi(&b[..b.len().min(SEQUENCE_BYTES)])
-}
-
-#[inline(always)]
-fn opened_short_csi(b: &[u8]) -> Option<ShortCsi>
     ensures sequence { IfSome result (λ brief. opened_ahead b.now ≡ Some (csi_in brief)) }
-    ensures within { IfSome result (λ brief. brief.count ≤ length b.now) }
     ensures exact { MatchOption result (begins_short b.now ≡ false) (λ _. begins_short b.now ≡ true) }
 {
     if b.len() < SHORT_CSI_BYTES {
@@ -61,7 +49,6 @@ fn one_number(b: &[u8], first: u16, at: usize) -> Option<ShortCsi>
     requires last { (slice_index b.now at == 0x3B) ≡ false }
     requires within { at + 1 ≤ length b.now }
     ensures sequence { IfSome result (λ brief. opened_ahead b.now ≡ Some (csi_in brief)) }
-    ensures within { IfSome result (λ brief. brief.count ≤ length b.now) }
     ensures exact { MatchOption result (begins_short b.now ≡ false) (λ _. begins_short b.now ≡ true) }
 {
     if !ends_short(b[at]) {
@@ -91,7 +78,6 @@ fn two_numbers(b: &[u8], first: u16, second: u16, at: usize, end: usize) -> Opti
     requires stops { is_digit (slice_index b.now end) ≡ true → end ≡ at + 4 }
     requires within { end + 1 ≤ length b.now }
     ensures sequence { IfSome result (λ brief. opened_ahead b.now ≡ Some (csi_in brief)) }
-    ensures within { IfSome result (λ brief. brief.count ≤ length b.now) }
     ensures exact { MatchOption result (begins_short b.now ≡ false) (λ _. begins_short b.now ≡ true) }
 {
     if !ends_short(b[end]) {
