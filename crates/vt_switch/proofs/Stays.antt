@@ -8,7 +8,7 @@ use Rattle.std.proofs.lemmas.Bool.{and_right, false≢true, or_parts}
 use Rattle.std.proofs.lemmas.Option.{none-some}
 use Rattle.vt_base.specs.declared.inval.Inval.{Inval}
 use Rattle.vt_base.specs.declared.vt_mode.VtMode.{VtMode}
-use Rattle.vt_switch.proofs.Lookups.{and_false, or_left, set_alike, unequal}
+use Rattle.vt_switch.proofs.Lookups.{set_alike, unequal}
 use Rattle.vt_switch.proofs.Sound.{given_back, still}
 use Rattle.vt_switch.specs.Acts.{SwitchAct, Allocate, Request, Release, SetMode, SetKd, Lock, Free, End, hop_of, hop_of_released}
 use Rattle.vt_switch.specs.Calls.{after_mode, after_released, without_console, with_console_handling, handling_of, inval, is_held, drop_pending, let_go, names, owns, pending_at}
