@@ -17,14 +17,7 @@ is_other b = not (is_printable b)
 
 -- a byte isn't printable where, 32 less and modulo 256, it is 95 at least
 other_byte : (b : ℕ) → b < 256 → leb 95 ((b + (256 - 32)) % 256) ≡ is_other b
-other_byte b small = ⊎_elim
-    (λ (low : b < 32).
-    let same : (b + (256 - 32)) % 256 ≡ b + 224 = omega arith in
-    ap (leb 95) same ∙ (let e : leb 95 (b + 224) ≡ is_other b = grind (arith, nat_tests, low) in e))
-    (λ (high : 32 ≤ b).
-    let same : (b + (256 - 32)) % 256 ≡ b - 32 = omega arith in
-    ap (leb 95) same ∙ (let e : leb 95 (b - 32) ≡ is_other b = grind (arith, nat_tests, high) in e))
-    (cases_lt b 32)
+other_byte b small = grind (arith, nat_tests)
 
 not-not : (b : Bool) → b ≡ not (not b)
 not-not true = refl
