@@ -3,7 +3,6 @@ mod AskingTable
 mod AskingTexts
 mod Controls
 mod Cuts
-mod Cutting
 mod Edits
 mod Feeds
 mod FollowWide

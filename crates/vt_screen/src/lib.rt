@@ -10,6 +10,7 @@ mod listener;
 mod out;
 mod outs;
 mod report_text;
+mod said;
 mod saved;
 mod screen_state;
 mod stops;
