@@ -6,6 +6,7 @@ ghost use Rattle.vt_cells.specs.contracts.palette.Palette.{the_row as palette_ro
 ghost use Rattle.vt_screen.specs.contracts.emu.Emu.{the_row};
 ghost use Rattle.vt_screen.specs.Tape.{palette, resize, user_map, with_change};
 
+mod changes;
 mod sequences;
 
 use crate::canvas::Canvas;
