@@ -1,7 +1,7 @@
 -- A write runs its bytes on its console's screen, or changes no screen.
 use Rattle.std.proofs.Common.{◌≡◌, ◌⊎◌, inl, inr, ℕ, zero, suc, ◌<◌, List, [], ◌∷◌, get_or, set, flat_map, Option, Some, None, refl, sym, ap, subst, ◌∙◌}
 use Rattle.std.proofs.lemmas.Option.{same_Some}
-use Rattle.std.specs.Prelude.{option_map}
+use Rattle.std.specs.Prelude.{IfSome, option_map}
 use Rattle.vt_base.specs.Bytes.{Text}
 use Rattle.vt_base.specs.declared.errno.Errno.{Errno}
 use Rattle.vt_events.specs.declared.entry.Entry.{Entry}
@@ -118,3 +118,12 @@ rows_kept first last w v entry c old new is was now writes =
         by_machine first last b.bytes (terminal_at w.terminals c) (terminal_at v.terminals c) old new
         (written w p fd c b v is) was now changes
     by_event p e is changes = absurd changes
+
+-- the rows that are known to stay, if any are
+pub kept_by : (changed : Option (ℕ × ℕ)) (w v : WorldState) (entry : Entry) (c : ℕ) (old new : Reached Screen)
+    → v ≡ left_by w entry → machine_of (terminal_at w.terminals c) ≡ Some old
+    → machine_of (terminal_at v.terminals c) ≡ Some new
+    → IfSome changed (λ rows. WritesAtMost rows.0 rows.1 old entry.event)
+    → AreKept changed (Some old.state.grid) new.state.grid
+kept_by None w v entry c old new is was now writes = λ y outside. absurd outside
+kept_by (Some rows) w v entry c old new is was now writes = rows_kept rows.0 rows.1 w v entry c old new is was now writes

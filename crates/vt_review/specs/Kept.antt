@@ -12,7 +12,12 @@ abbrev pub WritesAtMost : ℕ → ℕ → Reached Screen → Event → Type 0
 WritesAtMost first last m (event.Write fd b) = ChangesAtMost first last m b.bytes
 WritesAtMost first last m e = ⊥
 
--- the rows above first, and those below last, are those that were there
-abbrev pub AreKept : ℕ → ℕ → Option GridView → GridView → Type 0
-AreKept first last None after = ⊤
-AreKept first last (Some before) after = (y : ℕ) → (y < first) ⊎ (last < y) → row_at after y ≡ row_at before y
+-- the row is above the first one of these rows, or below the last one
+abbrev pub IsOutside : Option (ℕ × ℕ) → ℕ → Type 0
+IsOutside None y = ⊥
+IsOutside (Some rows) y = (y < rows.0) ⊎ (rows.1 < y)
+
+-- outside these rows each row is the one that was there
+abbrev pub AreKept : Option (ℕ × ℕ) → Option GridView → GridView → Type 0
+AreKept changed None after = ⊤
+AreKept changed (Some before) after = (y : ℕ) → IsOutside changed y → row_at after y ≡ row_at before y
