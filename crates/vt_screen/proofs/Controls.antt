@@ -1,6 +1,6 @@
 -- A control character by itself.
-use Rattle.std.proofs.Common.{◌≡◌, ◌==◌, ◌&&◌, not, ℕ, Bool, true, false, [], ◌∷◌, refl, sym, ap, ◌∙◌}
-use Rattle.std.proofs.lemmas.Bool.{and_parts}
+use Rattle.std.proofs.Common.{◌≡◌, ◌==◌, ◌&&◌, not, ℕ, true, [], ◌∷◌, sym, ap, ◌∙◌}
+use Rattle.std.proofs.lemmas.Bool.{and_parts, not-true}
 use Rattle.vt_screen.proofs.Printed.{empty_is}
 use Rattle.vt_screen.specs.Effect.{control}
 use Rattle.vt_screen.specs.Run.{ScreenAndOuts, screen_effects, with_outs, outs_of_option, run_from}
@@ -15,10 +15,6 @@ use Rattle.vt_units.specs.Run.{effects_of, make_reached}
 use Rattle.vt_units.specs.declared.mode.Mode.{Mode}
 use Rattle.vt_units.specs.declared.read.Read.{Read}
 
-is_not : (test : Bool) → not test ≡ true → test ≡ false
-is_not false is = refl
-is_not true is = absurd (let e : ⊥ = cc in e)
-
 -- it is the run of the byte
 pub control_run : ControlsAreUnits → (b : ℕ) (s : Screen) (rest : Rest) (m : Mode)
     → m ≡ mode_of s → (is_empty rest.text && is_control m b && not (b == 0x1B)) ≡ true
@@ -28,7 +24,7 @@ control_run law b s rest m mode takes done is =
     let last = and_parts (is_empty rest.text && is_control m b) (not (b == 0x1B)) takes in
     let first = and_parts (is_empty rest.text) (is_control m b) last.0 in
     let one = law rest (mode_of s) b (empty_is rest.text first.0)
-    (ap (λ (n : Mode). is_control n b) (sym mode) ∙ first.1) (is_not (b == 0x1B) last.1) in
+    (ap (λ (n : Mode). is_control n b) (sym mode) ∙ first.1) (not-true (b == 0x1B) last.1) in
     let start : ScreenAndOuts = record { screen = s; outs = [] } in
     let stepped : make_reached (effects_of screen_effects (answer rest (mode_of s) b) start) (rest_after rest (mode_of s) b)
     ≡ with_outs (outs_of_option (control b s).said) (make_reached (control b s).screen (fresh (mode_of s))) =

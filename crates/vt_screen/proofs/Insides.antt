@@ -1,8 +1,7 @@
 -- Each case of the effect table leaves the cursor in the screen, and in origin mode in the region.
-use Rattle.std.proofs.Common.{◌≡◌, ℕ, ◌+◌, ◌-◌, ◌==◌, ◌&&◌, ◌||◌, ◌<◌, ◌≤◌, Bool, true, false, List, [], ◌∷◌, length, max, min, nat_lt, nat_le, refl, sym, ◌∙◌, cond, arith, inl, inr, ltb-true}
+use Rattle.std.proofs.Common.{◌≡◌, ℕ, ◌+◌, ◌-◌, ◌==◌, ◌&&◌, ◌||◌, ◌<◌, ◌≤◌, Bool, true, false, List, [], ◌∷◌, length, max, min, nat_lt, nat_le, refl, cond, arith, ltb-true}
 use Rattle.std.specs.Prelude.{IsTrue}
-use Rattle.std.proofs.lemmas.Bool.{and_parts, false≢true, leb-true}
-use Rattle.std.proofs.lemmas.Bool.Decides.{eqb_tells}
+use Rattle.std.proofs.lemmas.Bool.{and_parts, eqb-false, false≢true, leb-true}
 use Rattle.vt_cells.specs.Colours.{Rgb}
 use Rattle.vt_screen.specs.Cursor.{at_column, at_row, first_row, linefeed, cursor_to, newline, cursor_to_in_region, region_down, region_up, reverse_linefeed, tab}
 use Rattle.vt_screen.specs.Erasing.{cells_inserted, delete_characters, delete_lines, erase_characters, erase_display, erase_line, in_region, insert_characters, insert_lines, rows_erased}
@@ -25,12 +24,6 @@ IsInside rule s =
     × (IsTrue s.state.origin → (s.state.top ≤ s.state.y) × (s.state.y ≤ s.state.bottom))
     × rule s.state.saved s.grid.rows s.grid.cols
 
-apart : (n m : ℕ) → (n == m) ≡ false → n ≡ m → ⊥
-apart n m e h = elim (eqb_tells n m) [
-  | inl x ↦ false≢true (sym e ∙ x.0)
-  | inr x ↦ x.1 h
-]
-
 -- a move goes to the rows that it reaches
 row_in : (o : Bool) (top bottom rows y : ℕ) → top ≤ bottom → bottom < rows → max (cond o top 0) (min y (cond o bottom (rows - 1))) < rows
 row_in true top bottom rows y h k = omega arith
@@ -41,7 +34,7 @@ row_reached true top bottom rows y h o = (omega arith, omega arith)
 row_reached false top bottom rows y h o = absurd (false≢true o)
 
 some_columns : (w : ℕ) → (w == 0) ≡ false → 1 ≤ w
-some_columns w e = let other = apart w 0 e in omega (arith, other)
+some_columns w e = let other = eqb-false w 0 e in omega (arith, other)
 
 module _ (rule : Saved → ℕ → ℕ → Type 0) where
   region-of : (s : Screen) → IsInside rule s → HasRegion s
@@ -94,7 +87,7 @@ module _ (rule : Saved → ℕ → ℕ → Type 0) where
   line_feed s h =
       either-if (s.state.y == s.state.bottom) (region_up s) (at_row (min (s.state.y + 1) (s.grid.rows - 1)) s) (λ _. h)
       (λ e.
-      let other = apart s.state.y s.state.bottom e in
+      let other = eqb-false s.state.y s.state.bottom e in
       let y = h.0 in
       let b = h.3 in (
         omega (arith, y),
@@ -113,7 +106,7 @@ module _ (rule : Saved → ℕ → ℕ → Type 0) where
   reverse_line_feed s h =
       either-if (s.state.y == s.state.top) (region_down s) (at_row (s.state.y - 1) s) (λ _. h)
       (λ e.
-      let other = apart s.state.y s.state.top e in
+      let other = eqb-false s.state.y s.state.top e in
       let y = h.0 in (
         omega (arith, y),
         h.1,

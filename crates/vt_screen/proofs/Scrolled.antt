@@ -1,9 +1,9 @@
 -- Line feeds that scroll, one after another and at once.
 use Rattle.std.proofs.Common.{◌≡◌, ◌<◌, ◌≤◌, ◌+◌, ◌-◌, ◌==◌, arith, ℕ, zero, suc, Bool, true, false, cond, List, [], ◌∷◌, ◌++◌, take, drop, length, replicate, refl, sym, ap, ◌∙◌, ⊎_elim}
 use Rattle.std.proofs.Math.Seq.{drop-append_seam, take-append_seam, drop-append-add}
-use Rattle.std.proofs.lemmas.Bool.{cases_lt, cond-true}
+use Rattle.std.proofs.lemmas.Bool.{cases_lt, cond-true, or_right}
 use Rattle.std.proofs.lemmas.List.{append_assoc, drop_all, drop-append-le, drop-drop, length-append, length-drop, length-replicate, length-take}
-use Rattle.std.specs.Prelude.{All, min, not, ◌||◌}
+use Rattle.std.specs.Prelude.{All, min, not}
 use Rattle.vt_cells.specs.declared.cell.Cell.{Cell}
 use Rattle.vt_grid.specs.Grid.{GridView, moved_up, scrolled_up}
 use Rattle.vt_screen.proofs.Printed.{either_mode, fresh_behind, rest_behind}
@@ -187,12 +187,8 @@ control_feed : (s : Screen) → control 0x0A s ≡ without_out (newline s)
 unfolding control
 control_feed s = refl
 
-or_true : (b : Bool) → (b || true) ≡ true
-or_true true = refl
-or_true false = refl
-
 feed_controls : (m : Mode) → is_control m 0x0A ≡ true
-feed_controls m = or_true (not m.display)
+feed_controls m = or_right (not m.display) true refl
 
 -- the run of line feeds, where no text is
 pub feeds_run : ControlsAreUnits → (bytes : List ℕ) (s : Screen) (rest : Rest)

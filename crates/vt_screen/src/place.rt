@@ -24,11 +24,30 @@ pub(crate) fn next_place(cols: u8, bottom: u8, at: Place, b: u8) -> Option<Place
     let is_above = at.y < bottom;
     match b {
         b' '..=b'~' if !at.wrap => Some(after_cell(cols, at)),
-        b' '..=b'~' if is_above => Some(after_cell(cols, Place { x: 0, y: at.y + 1, wrap: false })),
+        b' '..=b'~' if is_above => Some(after_cell(
+            cols,
+            Place {
+                x: 0,
+                y: at.y + 1,
+                wrap: false,
+            },
+        )),
         0x07 => Some(at),
-        0x08 => Some(Place { x: at.x.saturating_sub(1), y: at.y, wrap: false }),
-        b'\n' if is_above => Some(Place { x: at.x, y: at.y + 1, wrap: false }),
-        b'\r' => Some(Place { x: 0, y: at.y, wrap: false }),
+        0x08 => Some(Place {
+            x: at.x.saturating_sub(1),
+            y: at.y,
+            wrap: false,
+        }),
+        b'\n' if is_above => Some(Place {
+            x: at.x,
+            y: at.y + 1,
+            wrap: false,
+        }),
+        b'\r' => Some(Place {
+            x: 0,
+            y: at.y,
+            wrap: false,
+        }),
         _ => None,
     }
 }
