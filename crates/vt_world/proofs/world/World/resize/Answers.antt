@@ -3,10 +3,10 @@ use Rattle.std.specs.Prelude.{is_some}
 use Rattle.vt_screen.specs.Tape.{resize}
 use Rattle.vt_world.proofs.Alters.{altered_alike}
 use Rattle.vt_world.proofs.Owners.{alike_world}
-use Rattle.vt_world.proofs.world.World.resize_screen.Goals as goal
+use Rattle.vt_world.proofs.world.World.resize.Goals as goal
 
 pub invariant_of-self : goal.invariant_of-self
 invariant_of-self c =
-    alike_world c.self.inside.terminals c.resize.new.self c.self.inside.switch c.self.inside.procs
-    (ap (map is_some) c.resize.ensures ∙ altered_alike c.args.c (resize c.args.grid.rows c.args.grid.cols) c.self.inside.terminals)
+    alike_world
+    (ap (map is_some) c.resize.ensures ∙ altered_alike c.in_ok-c.c (resize c.in-Some.fresh.rows c.in-Some.fresh.cols) c.self.inside.terminals)
     c.self.invariant

@@ -3,10 +3,10 @@ use Rattle.std.specs.Prelude.{is_some}
 use Rattle.vt_screen.specs.Tape.{palette}
 use Rattle.vt_world.proofs.Alters.{altered_alike}
 use Rattle.vt_world.proofs.Owners.{alike_world}
-use Rattle.vt_world.proofs.world.World.set_colours.Goals as goal
+use Rattle.vt_world.proofs.world.World.set_palette.Goals as goal
 
 pub invariant_of-self : goal.invariant_of-self
 invariant_of-self c =
-    alike_world c.self.inside.terminals c.set_palette.new.self c.self.inside.switch c.self.inside.procs
-    (ap (map is_some) c.set_palette.ensures ∙ altered_alike c.args.c (palette c.args.colours) c.self.inside.terminals)
+    alike_world
+    (ap (map is_some) c.set_palette.ensures ∙ altered_alike c.in_ok-c.c (palette c.in_ok-colours.colours) c.self.inside.terminals)
     c.self.invariant
