@@ -36,11 +36,17 @@ pub(crate) fn add_cell(form: Form, cell: Cell, out: &mut Bytes)
     }
 }
 
+// Most characters are printable ones of ASCII: each is its own byte.
+#[tactic(auto, using(crate::proofs::Printables::printable_text))]
 fn add_text(cell: Cell, out: &mut Bytes)
     requires { 4 ≤ out.old.room }
     ensures grew { Grew (cell_text cell) out.old out.new }
     ensures most { out.old.room ≤ out.new.room + 4 }
 {
+    if 0x20 <= cell.code && cell.code <= 0x7E {
+        out.push(cell.code as u8);
+        return;
+    }
     if cell.code == HALF {
         return;
     }
