@@ -17,10 +17,10 @@ pub struct KeysHandle {
 }
 
 impl Model for KeysHandle {
-    ghost use Rattle.raw_box.specs.Held.{held};
+    ghost use Rattle.raw_box.specs.Contents.{contents};
     ghost use Rattle.keys_c.specs.contracts.keymap_keyboard.KeymapKeyboard.{the_row as keyboard_row};
 
-    ghost also_owns = { λ h. held keyboard_row h.alloc h.at h.value };
+    ghost also_owns = { λ h. contents keyboard_row h.alloc h.at h.value };
 }
 
 impl KeysHandle {
