@@ -6,14 +6,14 @@ ghost use Rattle.vt_journal.specs.Replies.{Within};
 use crate::words::Words;
 use arrayvec::ArrayVec;
 use vt_base::parse_decimal;
-use vt_events::NUMBERS;
+use vt_events::MOST_NUMBERS;
 
 /// The most numbers of an answer.
 pub(crate) const ANSWER_NUMBERS: usize = 5;
 
 /// The next `count` words as numbers of 16 bits.
-pub(crate) fn read_numbers(words: &mut Words, count: usize) -> Option<ArrayVec<u16, NUMBERS>>
-    requires { count ≤ NUMBERS }
+pub(crate) fn read_numbers(words: &mut Words, count: usize) -> Option<ArrayVec<u16, MOST_NUMBERS>>
+    requires { count ≤ MOST_NUMBERS }
     ensures found { IfSome result (λ ns. words.old ≡ map decimal ns.items ++ words.new) }
     ensures many { IfSome result (λ ns. length ns.items ≡ count) }
     ensures fit { IfSome result (λ ns. All (λ n. n < 2 ^ 16) ns.items) }

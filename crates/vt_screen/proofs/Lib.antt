@@ -1,6 +1,7 @@
 mod Asking
 mod AskingTable
 mod AskingTexts
+mod Changes
 mod Controls
 mod Cuts
 mod Cutting
@@ -12,6 +13,7 @@ mod Halved
 mod InsideTable
 mod Hearing
 mod Insides
+mod Places
 mod Prefixes
 mod Printed
 mod PutBack

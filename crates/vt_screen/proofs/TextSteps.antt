@@ -25,7 +25,7 @@ plain g y x wrap = record { grid = g; state = record (start_state g.rows) { x = 
 abbrev pub at : GridView → ℕ → ℕ → Screen
 at g y count = record { grid = g; state = state_at g.rows g.cols y count }
 
-printable_one : LowTakeOne → (b : ℕ) → is_printable b ≡ true → columns b ≡ 1
+pub printable_one : LowTakeOne → (b : ℕ) → is_printable b ≡ true → columns b ≡ 1
 printable_one low b is =
     low b (grind (arith, nat_tests, is)) (λ same. let e : ⊥ = grind (arith, nat_tests, is, same) in e)
 

@@ -8,6 +8,7 @@ ghost use Rattle.vt_screen.specs.Tape.{palette, resize, user_map, with_change};
 ghost use Rattle.vt_screen.specs.declared.out.Out.{Out};
 ghost use Rattle.vt_units.specs.Run.{run, step};
 
+mod changes;
 mod sequences;
 
 use crate::canvas::Canvas;

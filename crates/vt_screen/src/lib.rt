@@ -9,6 +9,7 @@ mod leading;
 mod listener;
 mod out;
 mod outs;
+mod place;
 mod report_text;
 mod saved;
 mod screen_state;

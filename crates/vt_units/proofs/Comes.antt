@@ -16,7 +16,10 @@ use Rattle.vt_units.specs.Bytes.{acts, interrupts, is_body, is_mid, opens_string
 use Rattle.vt_units.specs.Laws.{ComeTo, IsUnitOf, SequencesAreUnits}
 use Rattle.vt_units.specs.Numbers.{params_of}
 use Rattle.vt_units.specs.Reading.{Reading, after_prefix, longest_prefix, is_empty, reading, sequence, text_reading, unfinished, whole}
-use Rattle.vt_units.specs.Rest.{Rest, fresh}
+use Rattle.vt_units.specs.Rest.{Rest, fresh, start_mode}
+use Rattle.vt_units.specs.ShortSequences.{csi_in, sgr_in}
+use Rattle.vt_units.specs.declared.long_sgr.LongSgr.{LongSgr}
+use Rattle.vt_units.specs.declared.short_csi.ShortCsi.{ShortCsi}
 use Rattle.vt_units.specs.Sequences.{control_unit, is_parameter, numbered_unit}
 use Rattle.vt_units.specs.ParserState.{Each, rest_of}
 use Rattle.vt_units.specs.declared.mode.Mode.{Mode}
@@ -363,3 +366,10 @@ sequences_are_units old m text s found = ⊎_elim
     (λ (other : is_empty old.text ≡ false).
     absurd (let e : None ≡ Some s = sym (cond-false _ _ _ other) ∙ found in let f : ⊥ = cc in f))
     (cases_Bool (is_empty old.text))
+
+-- a sequence that is read at once stands in the text
+pub csi_within : (text : List ℕ) (brief : ShortCsi) → sequence_ahead text ≡ Some (csi_in brief) → brief.count ≤ length text
+csi_within text brief found = (sequences_are_units (fresh start_mode) start_mode text (csi_in brief) found).within
+
+pub sgr_within : (text : List ℕ) (longer : LongSgr) → sequence_ahead text ≡ Some (sgr_in longer) → longer.count ≤ length text
+sgr_within text longer found = (sequences_are_units (fresh start_mode) start_mode text (sgr_in longer) found).within

@@ -1,4 +1,4 @@
-use Rattle.std.proofs.Common.{◌==◌, ◌+◌, ◌≤◌, ◌<◌, ◌∙◌, ℕ, true, false, List, length, get_or, arith}
+use Rattle.std.proofs.Common.{◌==◌, ◌+◌, ◌≤◌, ◌<◌, ◌∙◌, ℕ, List, length, get_or, arith}
 use Rattle.std.proofs.lemmas.Bool.{eq-eqb}
 use Rattle.vt_units.proofs.ShortForms.{and_none, and_second, five_exact, not_eqb, number_last, number_parts}
 use Rattle.vt_units.specs.ShortForms.{ends_sgr}
