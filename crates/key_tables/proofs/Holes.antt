@@ -74,7 +74,9 @@ begun_more declared places kept n is true test place e after f pushed g =
     (subst (λ (ms : List (List Act)). AreBegun declared (places ++ Some (length kept) ∷ []) ms (n + 1)) (sym f)
     (begun_with declared places kept n is (sym test)))
 begun_more declared places kept n is false test place e after f pushed g =
-    grind (arith, begun_without)
+    subst (λ (xs : List (Option ℕ)). AreBegun declared xs after (n + 1)) (sym (g ∙ ap (λ x. places ++ x ∷ []) e))
+    (subst (λ (ms : List (List Act)). AreBegun declared (places ++ None ∷ []) ms (n + 1)) (sym f)
+    (begun_without declared places kept n is (sym test)))
 
 pub begun_kept : (declared : List ℕ) (places : List (Option ℕ)) (kept : List (List Act)) → AreBegun declared places kept 256 → AreKept places kept
 begun_kept declared places kept is = record {

@@ -40,7 +40,41 @@ kept_maps places kept is = record {
 -- a table is changed at its place, and no other
 pub maps_put : (places : List (Option ℕ)) (kept : List (List Act)) → AreKept places kept → (t p : ℕ) → t < 256 → slice_index_or places t None ≡ Some p → (f : List Act → List Act) (x y : List Act) → x ≡ slice_index_or kept p x → y ≡ f x → maps_at places (slice_set kept p y) ≡ slice_set (maps_at places kept) t (option_map f (slice_index_or (maps_at places kept) t None))
 maps_put places kept is t p low at f x y read new =
-    grind (arith, ext_get_or, maps_tall, length-set, get_or_default, map_by, get_or-set_other, eqb_tells, get_or-set_same, map_at)
+    ext_get_or None (maps_at places (slice_set kept p y)) (slice_set (maps_at places kept) t put)
+    (maps_tall places (slice_set kept p y) ∙ sym (length-set (maps_at places kept) t put ∙ maps_tall places kept))
+    (λ i h. each i)
+  where
+    put : Option (List Act)
+    put = option_map f (slice_index_or (maps_at places kept) t None)
+
+    there : p < length kept
+    there = is.within t p at
+
+    is_x : x ≡ kept_at kept p
+    is_x = read ∙ get_or_default kept p x [] there
+
+    put_is : put ≡ Some y
+    put_is = ap (option_map f) (map_by places kept t (Some p) at) ∙ ap (λ m. Some (f m)) (sym is_x) ∙ ap Some (sym new)
+
+    wide : t < length (maps_at places kept)
+    wide = let tall = is.tall in let e = maps_tall places kept in omega arith
+
+    other : (i : ℕ) → i ≢ t → (o : Option ℕ) → slice_index_or places i None ≡ o → option_map (kept_at (slice_set kept p y)) o ≡ option_map (kept_at kept) o
+    other i apart None e = refl
+    other i apart (Some q) e = ap Some (get_or-set_other kept p q y [] (λ same. apart (is.own i t p (e ∙ ap Some same) at)))
+
+    each : (i : ℕ) → slice_index_or (maps_at places (slice_set kept p y)) i None ≡ slice_index_or (slice_set (maps_at places kept) t put) i None
+    each i = elim (eqb_tells i t) [
+      | inl same ↦
+          ap (λ j. slice_index_or (maps_at places (slice_set kept p y)) j None) same.1
+          ∙ map_by places (slice_set kept p y) t (Some p) at
+          ∙ ap Some (get_or-set_same kept p y [] there)
+          ∙ sym (ap (λ j. slice_index_or (slice_set (maps_at places kept) t put) j None) same.1 ∙ get_or-set_same (maps_at places kept) t put None wide ∙ put_is)
+      | inr apart ↦
+          map_at places (slice_set kept p y) i
+          ∙ other i apart.1 (slice_index_or places i None) refl
+          ∙ sym (get_or-set_other (maps_at places kept) t i put None apart.1 ∙ map_at places kept i)
+    ]
 
 -- the tables stay whole, where one is changed into a whole one
 pub kept_put : (places : List (Option ℕ)) (kept : List (List Act)) → AreKept places kept → (p : ℕ) (y : List Act) → IsMap y → AreKept places (slice_set kept p y)
