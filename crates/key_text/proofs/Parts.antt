@@ -1,9 +1,9 @@
 -- The rows of a text that ends a line, and of the text after it.
-use Rattle.std.proofs.Common.{◌≡◌, ◌≢◌, ℕ, zero, suc, ◌+◌, ◌==◌, ◌≤◌, ◌&&◌, Bool, not, true, false, cond, IsTrue, List, [], ◌∷◌, ◌++◌, length, refl, sym, ap, ◌∙◌, subst, inl, inr, arith}
+use Rattle.std.proofs.Common.{◌≡◌, ◌≢◌, ℕ, zero, suc, ◌==◌, ◌≤◌, ◌&&◌, not, true, cond, IsTrue, List, [], ◌∷◌, ◌++◌, length, refl, sym, ap, ◌∙◌, subst, inl, inr, arith}
 use Rattle.std.proofs.lemmas.Bool.{and_parts, false≢true}
 use Rattle.std.proofs.lemmas.Bool.Decides.{eqb_tells, nat_tests}
 use Rattle.key_text.proofs.Turns.{Ends, byte_turn, crlf, ends, len_with_backslash_some, lf, no_line_feed, rows_from, rows_of_from}
-use Rattle.key_text.specs.Cut.{end_len, join_len, len_with_backslash, lf_len}
+use Rattle.key_text.specs.Cut.{end_len, join_len, len_with_backslash}
 use Rattle.key_text.specs.Parted.{is_ended, is_line_end, place_after_text}
 use Rattle.key_text.specs.Rows.{Row, after, backslash, place_after, carriage_return, line_feed, next_line, put_at, row_of, rows_of, with_item}
 use Rattle.key_text.specs.declared.placed.Place.{Place}

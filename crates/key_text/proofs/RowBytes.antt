@@ -1,11 +1,11 @@
 -- A row whose text has joins, up to its end.
-use Rattle.std.proofs.Common.{Bool, IsTrue, List, [], ap, append-nil, arith, cond, false, inl, inr, not, refl, subst, sym, true, ℕ, ◌&&◌, ◌++◌, ◌+◌, ◌==◌, ◌||◌, ◌∙◌, ◌∷◌, ◌≡◌}
-use Rattle.std.proofs.lemmas.Bool.{and_parts, false≢true, not-true, or_right}
-use Rattle.std.proofs.lemmas.Bool.Decides.{eqb_tells, nat_tests}
+use Rattle.std.proofs.Common.{Bool, IsTrue, List, [], ap, append-nil, arith, cond, false, not, refl, subst, sym, true, ℕ, ◌++◌, ◌==◌, ◌||◌, ◌∙◌, ◌∷◌, ◌≡◌}
+use Rattle.std.proofs.lemmas.Bool.{and_parts, false≢true, not-true}
+use Rattle.std.proofs.lemmas.Bool.Decides.{nat_tests}
 use Rattle.key_text.proofs.HasWords.{HasRows, a_row, an_empty, no_row}
 use Rattle.key_text.proofs.Turns.{byte_turn, rows_from, rows_of_from, with_items, with_items_row}
 use Rattle.key_text.proofs.WordBytes.{spaced_words}
-use Rattle.key_text.specs.Cut.{end_len, join_len, len_with_backslash, lf_len}
+use Rattle.key_text.specs.Cut.{end_len, join_len, lf_len}
 use Rattle.key_text.specs.Rows.{Row, after, backslash, carriage_return, line_feed, next_line, put_at, row_of, rows_of, with_item}
 use Rattle.key_text.specs.Spelled.{IsEnd, Joined, Spells, byte, ended, crlf, end, is_row, join, join_crlf, last, last_empty, lf, nothing, row, row_empty}
 use Rattle.key_text.specs.Words.{bytes}

@@ -1,11 +1,11 @@
 -- Words that mean the same are read alike.
-use Rattle.std.proofs.Common.{◌≡◌, ℕ, suc, ◌+◌, ◌==◌, ◌&&◌, ◌||◌, ◌≤◌, Bool, not, true, false, cond, nat_le, nat_lt, nat_eq, IsTrue, Some, None, Result, Ok, Err, List, [], ◌∷◌, length, codes, drop, refl, sym, ap, ◌∙◌, subst, inl, inr, arith}
+use Rattle.std.proofs.Common.{◌≡◌, ℕ, suc, ◌+◌, ◌==◌, ◌&&◌, ◌||◌, ◌≤◌, Bool, not, true, false, cond, nat_le, nat_lt, nat_eq, IsTrue, Some, None, Result, Ok, Err, List, [], ◌∷◌, length, codes, drop, refl, sym, ap, ◌∙◌, subst, arith}
 use Rattle.std.specs.Prelude.{find}
-use Rattle.std.proofs.lemmas.Bool.{and_parts, and_right, eq-eqb, false≢true, leb-true, ltb-false, ne_eqb, not-true, or_parts}
-use Rattle.std.proofs.lemmas.Bool.Decides.{eqb_tells, nat_tests}
+use Rattle.std.proofs.lemmas.Bool.{and_parts, and_right, eq-eqb, false≢true, leb-true, ne_eqb, not-true, or_parts}
+use Rattle.std.proofs.lemmas.Bool.Decides.{nat_tests}
 use Rattle.std.proofs.lemmas.List.{take_all}
 use Rattle.std.proofs.lemmas.Slice.Eq.{bytes_eq-Decides}
-use Rattle.std.specs.Char.{eq_ignore_ascii_case, to_ascii_lowercase}
+use Rattle.std.specs.Char.{eq_ignore_ascii_case}
 use Rattle.std.specs.List.{list_all, starts_with}
 use Rattle.std.specs.Option.{option_and_then, option_map, option_or}
 use Rattle.std.specs.Str.{bytes_eq, str_eq_ignore_ascii_case}

@@ -1,12 +1,12 @@
 -- The word that begins a row, by its bytes.
-use Rattle.std.proofs.Common.{◌≡◌, ℕ, zero, suc, ◌+◌, ◌==◌, ◌&&◌, ◌||◌, Bool, not, true, false, cond, IsTrue, IsFalse, Some, None, List, [], ◌∷◌, ◌++◌, length, take, drop, refl, sym, ap, ◌∙◌, subst, inl, inr, arith}
+use Rattle.std.proofs.Common.{◌≡◌, ℕ, zero, suc, ◌+◌, ◌==◌, ◌||◌, Bool, true, false, cond, IsTrue, Some, None, List, [], ◌∷◌, ◌++◌, length, take, drop, refl, sym, ap, ◌∙◌, subst, arith}
 use Rattle.std.proofs.lemmas.Bool.{and_parts, eq-eqb, false≢true, not-true, or_parts}
-use Rattle.std.proofs.lemmas.Bool.Decides.{eqb_tells, nat_tests}
+use Rattle.std.proofs.lemmas.Bool.Decides.{nat_tests}
 use Rattle.std.proofs.lemmas.List.{append_assoc, drop_at, length-append, take_at}
 use Rattle.std.specs.List.{list_all, prefix_len}
 use Rattle.std.specs.Option.{option_map, option_map_or}
 use Rattle.key_text.proofs.HasWords.{HasWords, head_same, moved, none_left, one_more, tail_same}
-use Rattle.key_text.proofs.SameBytes.{bare, bares, close_bare, length-bare}
+use Rattle.key_text.proofs.SameBytes.{bares, close_bare, length-bare}
 use Rattle.key_text.specs.Rows.{backslash}
 use Rattle.key_text.specs.Spelled.{Inside, IsWord, Spaced, is_apart, is_comment, blank, comment, empty, ended, escaped, plain, quoted, bare as bare_word, word}
 use Rattle.key_text.specs.Words.{bytes, close_at, is_bare, is_blank, is_quote, quoted_len, word_at, word_in, word_len}
