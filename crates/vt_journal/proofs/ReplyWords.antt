@@ -1,7 +1,7 @@
 -- The words of an answer, and the answer of words.
 use Rattle.std.proofs.Common.{◌≡◌, ℕ, ◌<◌, ◌≤◌, ◌^◌, Bool, true, ◌&&◌, cond, eqb, ltb, Option, Some, None, Result, Ok, Err, List, [], ◌∷◌, ◌++◌, find, get_or, length, map, decimal, refl, sym, ap, subst, ◌∙◌, append_assoc, arith}
 use Rattle.std.specs.List.{All, list_all}
-use Rattle.std.specs.Prelude.{IfNone, OnOk, unwrap_or}
+use Rattle.std.specs.Prelude.{◌≢◌, IfNone, IfSome, OnOk, unwrap_or}
 use Rattle.std.proofs.lemmas.List.{get_or-replicate}
 use Rattle.vt_base.specs.Bytes.{Text}
 use Rattle.vt_base.specs.declared.vt_mode.VtMode.{VtMode}
@@ -18,6 +18,7 @@ use Rattle.vt_events.specs.Plain.{plain_reply}
 use Rattle.vt_events.specs.declared.reply.Reply.{Reply}
 use Rattle.vt_events.specs.declared.reply.Reply.TheVariants as reply
 use Rattle.vt_journal.specs.Replies.{IsFitReply, Within, kind_of, mosts, reply_held, reply_holds, reply_name, reply_numbers}
+use Rattle.vt_journal.specs.Taking.{Takes}
 use Rattle.vt_journal.specs.Words.{held_words, reply_words}
 use Rattle.vt_journal.specs.declared.reply_kind.ReplyKind.{ReplyKind}
 use Rattle.vt_journal.specs.declared.reply_kind.ReplyKind.TheVariants as kind
@@ -210,11 +211,6 @@ reply_once r s u v fit_r fit_s same =
       held.1,
     )
 
--- the answer made of the kind, numbers and bytes that were read has these words
-pub record IsReplyRead (words : List (List ℕ)) (r : Reply) (rest : List (List ℕ)) : Type 0 where
-  pub parts : words ≡ reply_words r ++ rest
-  pub fit : IsFitReply r
-
 -- words of an answer begin with the name of its kind
 pub named_reply : (r : Reply) (rest : List (List ℕ))
     → (more : List (List ℕ)) × (reply_words r ++ rest ≡ reply_name (kind_of r) ∷ more)
@@ -223,10 +219,13 @@ named_reply r rest = (
   ap (λ words. words ++ rest) (reply_parts r),
 )
 
--- if there is none, the fact of that case holds
-pub none_more : {X P Q : Type 0} (o : Option X) → (P → Q) → IfNone o P → IfNone o Q
-none_more None more none = more none
-none_more (Some x) more none = tt
+-- an answer that is made of what was read is the one that the words spell
+pub takes_answer : (old new : List (List ℕ)) (made : Option Reply) (Other : Type 0)
+    → IfSome made (λ r. old ≡ reply_words r ++ new) → IfNone made Other
+    → (Other → (r : Reply) (rest : List (List ℕ)) → IsFitReply r → old ≢ reply_words r ++ rest)
+    → Takes reply_words IsFitReply old new made
+takes_answer old new (Some r) Other found none more = found
+takes_answer old new None Other found none more = more none
 
 -- a fact that holds for every result of a call holds after Ok
 pub always : {T E P : Type 0} (r : Result T E) → P → OnOk r P
