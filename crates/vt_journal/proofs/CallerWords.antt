@@ -5,7 +5,7 @@ use Rattle.std.proofs.lemmas.Bool.{lt-ltb}
 use Rattle.std.proofs.lemmas.Fmt.{decimal_by_steps, decimal_injective}
 use Rattle.std.proofs.lemmas.List.Folds.{list_all-append}
 use Rattle.vt_journal.specs.Callers.{HasWord, caller_word, is_process, keyboard_number}
-use Rattle.vt_journal.proofs.Clear.{is_clear, is_clear-decimal}
+use Rattle.vt_journal.proofs.Clear.{is_clear, is_clear_high, is_high, is_high-decimal}
 
 small : (version n : ℕ) → HasWord version n → n < 2 ^ 64
 small version n fit = omega (arith, fit.0)
@@ -63,19 +63,6 @@ no_process n p digits zero is process same =
     omega (arith, within.0, both, zero)
 
 -- the bytes of a caller's word are digits or letters, and no last line begins with one
-abbrev pub is_high : List ℕ → Bool
-is_high word = list_all (λ b. ltb 0x2F b) word
-
-is_high-decimal : (n : ℕ) → n < 2 ^ 64 → is_high (decimal n) ≡ true
-is_high-decimal =
-    decimal_by_steps (λ _ digits. is_high digits ≡ true) (λ n below. digit n)
-    (λ n digits above others.
-    list_all-append (λ b. ltb 0x2F b) digits ((48 + n % 10) ∷ [])
-    ∙ (λ j. others j && digit (n % 10) j))
-  where
-    digit : (n : ℕ) → is_high ((48 + n) ∷ []) ≡ true
-    digit n = ap (λ b. b && true) (lt-ltb 0x2F (48 + n) (omega arith))
-
 pub is_high_caller : (version n : ℕ) → HasWord version n → is_high (caller_word version n) ≡ true
 is_high_caller version n fit = by_test (eqb version 1) (is_process n)
   where
@@ -89,12 +76,4 @@ is_high_caller version n fit = by_test (eqb version 1) (is_process n)
 
 -- it is clear of blanks
 pub is_clear_caller : (version n : ℕ) → HasWord version n → is_clear (caller_word version n) ≡ true
-is_clear_caller version n fit = by_test (eqb version 1) (is_process n)
-  where
-    by_test : (old p : Bool)
-        → is_clear
-        (cond old (decimal n) (cond p (codes "p" ++ decimal n) (codes "k" ++ decimal (keyboard_number n))))
-        ≡ true
-    by_test true p = is_clear-decimal n (small version n fit)
-    by_test false true = is_clear-decimal n (small version n fit)
-    by_test false false = is_clear-decimal (keyboard_number n) (keyboard_small version n fit)
+is_clear_caller version n fit = is_clear_high (caller_word version n) (is_high_caller version n fit)

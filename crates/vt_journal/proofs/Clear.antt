@@ -90,16 +90,30 @@ is_clear_name : (k : Kind) → is_clear (name_of k) ≡ true
 is_clear_name calls.Exit = refl
 is_clear_name k = refl
 
+-- each byte is a digit or above one
+abbrev pub is_high : List ℕ → Bool
+is_high word = list_all (λ b. ltb 0x2F b) word
+
+pub is_clear_high : (word : List ℕ) → is_high word ≡ true → is_clear word ≡ true
+is_clear_high [] high = refl
+is_clear_high (b ∷ word) high =
+    let both = and_parts (ltb 0x2F b) (is_high word) high in
+    let above : ltb 0x20 b ≡ true = lt-ltb 0x20 b (omega (arith, ltb-true 0x2F b both.0)) in
+    λ j. above j && is_clear_high word both.1 j
+
+pub is_high-decimal : (n : ℕ) → n < 2 ^ 64 → is_high (decimal n) ≡ true
+is_high-decimal =
+    decimal_by_steps (λ _ digits. is_high digits ≡ true) (λ n below. digit n)
+    (λ n digits above others.
+    list_all-append (λ b. ltb 0x2F b) digits ((48 + n % 10) ∷ [])
+    ∙ (λ j. others j && digit (n % 10) j))
+  where
+    digit : (n : ℕ) → is_high ((48 + n) ∷ []) ≡ true
+    digit n = ap (λ b. b && true) (lt-ltb 0x2F (48 + n) (omega arith))
+
 -- numbers are clear
 pub is_clear-decimal : (n : ℕ) → n < 2 ^ 64 → is_clear (decimal n) ≡ true
-is_clear-decimal =
-    decimal_by_steps (λ _ digits. is_clear digits ≡ true) (λ n below. digit_word n)
-    (λ n digits above others.
-    list_all-append (λ b. ltb 0x20 b) digits ((48 + n % 10) ∷ [])
-    ∙ (λ j. others j && digit_word (n % 10) j))
-  where
-    digit_word : (n : ℕ) → is_clear ((48 + n) ∷ []) ≡ true
-    digit_word n = ap (λ b. b && true) (lt-ltb 0x20 (48 + n) (omega arith))
+is_clear-decimal n fits = is_clear_high (decimal n) (is_high-decimal n fits)
 
 -- lists of numbers are clear
 pub are_clear_decimals : (ns : List ℕ) → All (λ n. n < 2 ^ 64) ns

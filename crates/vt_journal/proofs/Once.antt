@@ -10,8 +10,8 @@ use Rattle.vt_journal.specs.Says.{IsFitEntry, IsFitTail}
 use Rattle.vt_journal.specs.Words.{IsFitCall, event_words, reply_words}
 use Rattle.vt_journal.specs.declared.tail.Tail.{Tail}
 use Rattle.vt_journal.specs.declared.tail.Tail.TheVariants as tail
-use Rattle.vt_journal.proofs.CallerWords.{is_clear_caller, is_high, is_high_caller, same_caller}
-use Rattle.vt_journal.proofs.Clear.{are_clear-append, are_clear-event, is_clear-decimal, is_clear_line}
+use Rattle.vt_journal.proofs.CallerWords.{is_clear_caller, is_high_caller, same_caller}
+use Rattle.vt_journal.proofs.Clear.{are_clear-append, are_clear-event, is_clear-decimal, is_clear_line, is_high}
 use Rattle.vt_journal.proofs.OneSpelling.{OneSpelling, words_once}
 use Rattle.vt_journal.proofs.ReplyWords.{are_clear-reply, reply_once}
 use Rattle.vt_journal.proofs.Spellings.{event_once}

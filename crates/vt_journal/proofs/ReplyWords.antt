@@ -163,10 +163,11 @@ pub record NumbersAre (ns : List ℕ) (v : List (List ℕ)) (r : Reply) (rest : 
   pub numbers : ns ≡ reply_numbers r
   pub words : v ≡ held_words (reply_held r) ++ rest
 
-pub numbers_are : (k : ReplyKind) (ns : List ℕ) (u v : List (List ℕ)) (r : Reply)
-    (rest : List (List ℕ)) → ReplyIs k u r rest → IsFitReply r → Within (mosts k) ns
+pub numbers_are : (k : ReplyKind) (most ns : List ℕ) (u v : List (List ℕ)) (r : Reply)
+    (rest : List (List ℕ)) → ReplyIs k u r rest → IsFitReply r → most ≡ mosts k → Within most ns
     → u ≡ map decimal ns ++ v → NumbersAre ns v r rest
-numbers_are k ns u v r rest is fit within numbers =
+numbers_are k most ns u v r rest is fit its_most within_most numbers =
+    let within : Within (mosts k) ns = subst (λ most. Within most ns) its_most within_most in
     let within_r : Within (mosts k) (reply_numbers r) =
     subst (λ k. Within (mosts k) (reply_numbers r)) is.kind fit.numbers in
     let both =
@@ -196,7 +197,7 @@ reply_once r s u v fit_r fit_s same =
     ap (λ words. words ++ u) (reply_parts r) in
     let is = reply_is (reply_words r ++ u) _ (kind_of r) s v same parts in
     let are =
-    numbers_are (kind_of r) (reply_numbers r) _ (held_words (reply_held r) ++ u) s v is fit_s
+    numbers_are (kind_of r) _ (reply_numbers r) _ (held_words (reply_held r) ++ u) s v is fit_s refl
     fit_r.numbers (append_assoc (map decimal (reply_numbers r)) (held_words (reply_held r)) u) in
     let holds : Bool = reply_holds (kind_of r) in
     let held =

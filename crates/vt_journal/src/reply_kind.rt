@@ -38,6 +38,9 @@ impl ReplyKind {
         if name == b"num".as_slice() {
             return Some(ReplyKind::Num);
         }
+        if name == b"sigs".as_slice() {
+            return Some(ReplyKind::Sigs);
+        }
         if name == b"state".as_slice() {
             return Some(ReplyKind::State);
         }
@@ -52,9 +55,6 @@ impl ReplyKind {
         }
         if name == b"wait".as_slice() {
             return Some(ReplyKind::Wait);
-        }
-        if name == b"sigs".as_slice() {
-            return Some(ReplyKind::Sigs);
         }
         if name == b"err".as_slice() {
             return Some(ReplyKind::Err);

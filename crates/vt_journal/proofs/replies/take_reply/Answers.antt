@@ -22,12 +22,10 @@ pub returns-in_default-2-clause-takes : goal.returns-in_default-2-clause-takes
 returns-in_default-2-clause-takes c =
     λ r rest fit is.
     let kind = reply_is _ c.take_kind.new.words c.in-Some.kind r rest is c.in-Some.ensures in
-    let within : Within (mosts c.in-Some.kind) c.in-Some-take_numbers.numbers.items =
-    subst (λ most. Within most c.in-Some-take_numbers.numbers.items) c.mosts.ensures
-    c.in-Some-take_numbers.ensures.fit in
     let are =
-    numbers_are c.in-Some.kind c.in-Some-take_numbers.numbers.items c.take_kind.new.words
-    c.take_numbers.new.words r rest kind fit within c.in-Some-take_numbers.ensures.takes in
+    numbers_are c.in-Some.kind _ c.in-Some-take_numbers.numbers.items c.take_kind.new.words
+    c.take_numbers.new.words r rest kind fit c.mosts.ensures c.in-Some-take_numbers.ensures.fit
+    c.in-Some-take_numbers.ensures.takes in
     let none = rw c.in_default-2.is at c.in_ok-bytes.ensures.takes in
     none (reply_bytes r) rest (fit_bytes (reply_held r) fit.bytes)
     (held_are c.in-Some.kind c.take_numbers.new.words c.take_numbers.new.words r rest
@@ -38,10 +36,8 @@ returns-clause-takes c =
     takes_answer c.args.words.now c.read_bytes.new.words c.answer.result _ (search rules) c.answer.ensures.none
     (λ none r rest fit is.
     let kind = reply_is _ c.take_kind.new.words c.in-Some.kind r rest is c.in-Some.ensures in
-    let within : Within (mosts c.in-Some.kind) c.in-Some-take_numbers.numbers.items =
-    subst (λ most. Within most c.in-Some-take_numbers.numbers.items) c.mosts.ensures
-    c.in-Some-take_numbers.ensures.fit in
     let are =
-    numbers_are c.in-Some.kind c.in-Some-take_numbers.numbers.items c.take_kind.new.words
-    c.take_numbers.new.words r rest kind fit within c.in-Some-take_numbers.ensures.takes in
+    numbers_are c.in-Some.kind _ c.in-Some-take_numbers.numbers.items c.take_kind.new.words
+    c.take_numbers.new.words r rest kind fit c.mosts.ensures c.in-Some-take_numbers.ensures.fit
+    c.in-Some-take_numbers.ensures.takes in
     none r kind.kind (sym are.numbers ∙ sym c.as_slice.ensures.value))
