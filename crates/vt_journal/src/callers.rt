@@ -8,9 +8,10 @@ ghost use Rattle.vt_journal.specs.Taking.{Finds, Takes};
 ghost use Rattle.vt_journal.specs.Text.{Adds};
 
 use crate::adding::{add_lettered, add_number};
+use crate::numbers::number_of;
 use crate::words::Words;
 use std::alloc::Global;
-use vt_base::{Bytes, CallerNo, NoMemory, parse_decimal};
+use vt_base::{Bytes, CallerNo, NoMemory};
 use vt_events::Entry;
 
 /// The greatest number of a process.
@@ -82,7 +83,7 @@ fn read_numbered(digits: &[u8]) -> Option<CallerNo>
     ensures finds { Finds decimal (λ p. p ≤ PROCESSES) digits.now result }
     ensures fit { IfSome result (λ p. p ≤ PROCESSES) }
 {
-    let n = parse_decimal(digits, u64::from(PROCESSES))?;
+    let n = number_of(digits, u64::from(PROCESSES))?;
     Some(CallerNo::numbered(n as u16))
 }
 
@@ -104,6 +105,6 @@ fn read_keyboard(digits: &[u8]) -> Option<CallerNo>
         digits.now result }
     ensures fit { IfSome result (λ p. (p < callers) × (is_process p ≡ false)) }
 {
-    let n = parse_decimal(digits, LAST_KEYBOARD)?;
+    let n = number_of(digits, LAST_KEYBOARD)?;
     Some(CallerNo::keyboard(n as u8))
 }

@@ -2,7 +2,7 @@
 ghost use Rattle.std.specs.Prelude.{◌≡◌, ◌+◌, ◌<◌, ◌≤◌, ◌^◌, [], ◌∷◌, length, map, decimal, option_map, IfSome};
 ghost use Rattle.std.specs.List.{All};
 ghost use Rattle.vt_journal.specs.Replies.{Within};
-ghost use Rattle.vt_journal.specs.Taking.{Takes};
+ghost use Rattle.vt_journal.specs.Taking.{Finds, Takes};
 ghost use Rattle.vt_journal.specs.Words.{one_number};
 
 use crate::words::Words;
@@ -62,6 +62,15 @@ pub fn take_number(words: &mut Words, most: u64) -> Option<u64>
     ensures fit { IfSome result (λ n. n ≤ most) }
 {
     let word = words.next()?;
+    number_of(word, most)
+}
+
+/// The number of at most `most` that the word spells.
+#[inline(always)]
+pub(crate) fn number_of(word: &[u8], most: u64) -> Option<u64>
+    ensures finds { Finds decimal (λ n. n ≤ most) word.now result }
+    ensures fit { IfSome result (λ n. n ≤ most) }
+{
     if let Some(n) = short_number(word) {
         if n <= most {
             return Some(n);
@@ -79,7 +88,10 @@ fn short_number(word: &[u8]) -> Option<u64>
         return None;
     }
     let mut n = digit(word[0])?;
-    if n == 0 && word.len() != 1 {
+    if word.len() == 1 {
+        return Some(n);
+    }
+    if n == 0 {
         return None;
     }
     for i in 1..word.len() {

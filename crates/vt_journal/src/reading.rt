@@ -55,6 +55,7 @@ fn read_kind(words: &mut Words) -> Option<Kind>
 
 /// Takes the next word as bytes in hexadecimal if the call or the answer holds bytes; otherwise takes no word and
 /// returns no bytes.
+#[inline(always)]
 pub(crate) fn read_bytes(
     alloc: Global,
     words: &mut Words,
