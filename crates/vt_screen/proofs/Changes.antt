@@ -1,13 +1,11 @@
 -- The rows that change while the bytes of a text are read.
-use Rattle.std.proofs.Common.{◌≡◌, ℕ, ◌⊎◌, ◌+◌, ◌<◌, ◌≤◌, List, [], ◌∷◌, true, drop, length, get_or, inl, inr, refl, sym, ap, ◌∙◌, arith}
+use Rattle.std.proofs.Common.{◌≡◌, ℕ, ◌⊎◌, ◌+◌, ◌<◌, ◌≤◌, List, [], ◌∷◌, add-one, drop, drop-cons, length, get_or, inl, inr, sym, ap, ◌∙◌, arith}
 use Rattle.std.proofs.lemmas.List.{drop_all}
 use Rattle.vt_grid.specs.Grid.{row_at}
-use Rattle.vt_screen.proofs.Feeds.{run_byte}
-use Rattle.vt_screen.specs.Run.{ScreenAndOuts, run_from, screen_effects, with_outs}
+use Rattle.vt_screen.specs.Run.{ScreenAndOuts, run_from, screen_effects}
 use Rattle.vt_screen.specs.Screen.{Screen}
 use Rattle.vt_screen.specs.Touched.{AreSameOutside, ChangesAtMost, IsAt, Moves}
 use Rattle.vt_screen.specs.declared.place.Place.{Place}
-use Rattle.vt_units.specs.Reading.{is_empty}
 use Rattle.vt_units.specs.Run.{Reached, run, step}
 
 -- after some of the bytes the cursor is here, and at most the rows from the first one to its own have changed
@@ -31,7 +29,10 @@ come_further cols bottom first at next m bytes i within moves come =
     let after = moves.1 come.now come.text come.here in
     record {
       now = step screen_effects (get_or bytes i 0) come.now;
-      runs = run_byte bytes i come.now (step screen_effects (get_or bytes i 0) come.now) within refl ∙ come.runs;
+      runs =
+          ap (λ (n : ℕ). run screen_effects (get_or bytes i 0 ∷ drop n bytes) come.now) (add-one i)
+          ∙ ap (λ (left : List ℕ). run screen_effects left come.now) (sym (drop-cons bytes i 0 within))
+          ∙ come.runs;
       text = after.0;
       here = after.1;
       order = omega (arith, come.order, moves.0);
@@ -49,8 +50,3 @@ all_come cols bottom first at m bytes i all come =
     ap (λ (left : List ℕ). run screen_effects left come.now) (sym (drop_all i bytes all)) ∙ come.runs in
     λ k outside.
     ap (λ (now : Reached ScreenAndOuts). row_at now.state.screen.grid k) (sym done) ∙ come.same k outside
-
--- no bytes
-pub no_text : (text : List ℕ) → is_empty text ≡ true → text ≡ []
-no_text [] empty = refl
-no_text (b ∷ text) empty = absurd (cc)

@@ -4,7 +4,6 @@ mod AskingTexts
 mod Changes
 mod Controls
 mod Cuts
-mod Cutting
 mod Edits
 mod Feeds
 mod FollowWide

@@ -1,5 +1,5 @@
 -- A byte that scrolls nothing: the cursor's next place, and the rows that stay.
-use Rattle.std.proofs.Common.{◌≡◌, ℕ, ◌⊎◌, ◌+◌, ◌-◌, ◌<◌, ◌≤◌, ◌==◌, ◌&&◌, ◌||◌, min, nat_lt, not, Bool, true, false, List, [], ◌∷◌, set, inl, inr, refl, sym, subst, ap, ◌∙◌, cond, arith, ltb-true, ltb-false}
+use Rattle.std.proofs.Common.{◌≡◌, ℕ, ◌⊎◌, ◌+◌, ◌-◌, ◌<◌, ◌≤◌, ◌==◌, ◌&&◌, ◌||◌, min, nat_lt, not, Bool, true, false, List, [], ◌∷◌, inl, inr, refl, sym, subst, ap, ◌∙◌, cond, arith, ltb-true, ltb-false}
 use Rattle.std.proofs.lemmas.Bool.{and_parts, le-ltb, ne_eqb}
 use Rattle.std.proofs.lemmas.List.{get_or-set_other}
 use Rattle.vt_cells.specs.Width.{LowTakeOne}
@@ -10,16 +10,15 @@ use Rattle.vt_screen.proofs.TextSteps.{printable_one}
 use Rattle.vt_screen.specs.Cursor.{at_column, at_row, linefeed, region_up}
 use Rattle.vt_screen.specs.Effect.{control, effect}
 use Rattle.vt_screen.specs.Erasing.{cells_inserted}
-use Rattle.vt_screen.specs.Printing.{after_wrap, lacks_room, print, print_character, with_cells_at_cursor, with_gap}
+use Rattle.vt_screen.specs.Printing.{after_wrap, lacks_room, print, with_cells_at_cursor, with_gap}
 use Rattle.vt_screen.specs.Run.{ScreenAndOuts, screen_effects, then_done}
 use Rattle.vt_screen.specs.Screen.{Screen, mode_of}
 use Rattle.vt_screen.specs.Touched.{AreSameOutside, IsAt, Moves, after_cell}
 use Rattle.vt_screen.specs.declared.place.Place.{Place}
-use Rattle.vt_units.specs.Bytes.{decodes, is_control, is_never_shown, is_printable}
+use Rattle.vt_units.specs.Bytes.{is_control, is_never_shown, is_printable}
 use Rattle.vt_units.specs.Laws.{ControlsAreUnits, PrintablesAreCharacters}
 use Rattle.vt_units.specs.Rest.{fresh}
 use Rattle.vt_units.specs.Run.{Reached, effects_of, make_reached, step}
-use Rattle.vt_units.specs.declared.mode.Mode.{Mode}
 use Rattle.vt_units.specs.declared.unit.Unit.TheVariants.{Char, Control}
 
 -- a row is set, and another one read

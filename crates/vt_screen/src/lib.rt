@@ -11,6 +11,7 @@ mod out;
 mod outs;
 mod place;
 mod report_text;
+mod said;
 mod saved;
 mod screen_state;
 mod stops;

@@ -35,7 +35,7 @@ impl Emu {
     }
 
     // No text is pending, text is UTF-8, characters wrap, and a line feed stays in its column.
-    #[tactic(auto, using(crate::proofs::Changes::no_text))]
+    #[tactic(auto, using(crate::proofs::Printed::empty_is))]
     fn reads_plainly(&self) -> bool
         ensures text { result ≡ true → self.now.rest.text ≡ [] }
         ensures decoding { result ≡ true → decodes (mode_of self.now.state) ≡ true }
