@@ -3,4 +3,3 @@ pub mod HighKinds
 pub mod Rings
 pub mod Stills
 pub mod Tellings
-pub mod Written
