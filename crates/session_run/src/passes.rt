@@ -59,6 +59,7 @@ pub(crate) fn work_all<
         → IfOk (slice_index_or ran.items i d)
         (λ q. HasRun programs.now seat.now (slice_index_or callers.now i 0) q)) }
 {
+    // Each of these callers has a program, so each worker begins and ends at this pace.
     let pace = Pace::of(callers.len());
     let pace = &pace;
     let run = move |pass: Pass<J>| -> Result<Pass<J>, NoMemory>
