@@ -1,10 +1,10 @@
 -- Characters as bytes and sizes.
-use Rattle.std.proofs.Common.{◌≡◌, ℕ, suc, ◌+◌, ◌-◌, ◌≤◌, List, [], ◌∷◌, ◌++◌, length, take, drop, refl, sym, ap, ◌∙◌, arith, append_assoc, length-append}
+use Rattle.std.proofs.Common.{◌≡◌, inl, inr, ℕ, suc, ◌+◌, ◌-◌, ◌≤◌, List, [], ◌∷◌, ◌++◌, length, take, drop, refl, sym, ap, ◌∙◌, arith, append_assoc, length-append}
 use Rattle.std.proofs.lemmas.List.{drop-append-le, length-drop, length-take, take_all, take-append-le, take-append-drop}
 use Rattle.std.proofs.Math.Seq.{drop-append_seam, take-append_seam}
 use Rattle.std.specs.List.{concat}
 use Rattle.cooked.specs.KeptText.{but_last, last_of}
-use Rattle.cooked.specs.Sizes.{IsLastSize, parts, total, with_joined}
+use Rattle.cooked.specs.Sizes.{EndsBy, parts, total, with_joined}
 
 pub total_more : (sizes : List ℕ) (n : ℕ) → total (sizes ++ n ∷ []) ≡ total sizes + n
 total_more [] n = omega arith
@@ -39,36 +39,6 @@ pub parts_count : (sizes bytes : List ℕ) → length (parts sizes bytes) ≡ le
 parts_count [] bytes = refl
 parts_count (n ∷ sizes) bytes = ap suc (parts_count sizes (drop n bytes))
 
--- the last part, and the bytes before it
-pub record LastPart (sizes : List ℕ) (size : ℕ) (bytes : List ℕ) : Type 0 where
-  pub front : List ℕ
-  pub last : List ℕ
-  pub bytes_are : bytes ≡ front ++ last
-  pub front_whole : total sizes ≡ length front
-  pub last_size : length last ≡ size
-  pub parts_are : parts (sizes ++ size ∷ []) bytes ≡ parts sizes front ++ last ∷ []
-
-pub last_part : (sizes : List ℕ) (size : ℕ) (bytes : List ℕ) → total (sizes ++ size ∷ []) ≡ length bytes
-    → LastPart sizes size bytes
-last_part sizes size bytes whole =
-    let sum : total sizes + size ≡ length bytes = sym (total_more sizes size) ∙ whole in
-    let front : List ℕ = take (total sizes) bytes in
-    let last : List ℕ = drop (total sizes) bytes in
-    let all : bytes ≡ front ++ last = sym (take-append-drop (total sizes) bytes) in
-    let front_whole : total sizes ≡ length front = omega (arith, length-take (total sizes) bytes, sum) in
-    let last_size : length last ≡ size = omega (arith, length-drop (total sizes) bytes, sum) in
-    record {
-      front = front;
-      last = last;
-      bytes_are = all;
-      front_whole = front_whole;
-      last_size = last_size;
-      parts_are =
-          ap (λ n. parts (sizes ++ n ∷ []) bytes) (sym last_size)
-          ∙ ap (parts (sizes ++ length last ∷ [])) all
-          ∙ parts_more sizes front last front_whole;
-    }
-
 pub last_of_more : (cs : List (List ℕ)) (c : List ℕ) → last_of (cs ++ c ∷ []) ≡ c
 last_of_more [] c = refl
 last_of_more (d ∷ []) c = refl
@@ -79,14 +49,51 @@ but_last_of_more [] c = refl
 but_last_of_more (d ∷ []) c = refl
 but_last_of_more (d ∷ g ∷ cs) c = ap (λ xs. d ∷ xs) (but_last_of_more (g ∷ cs) c)
 
--- the meaning of the last size for the sizes and the bytes
-module _ (sizes bytes : List ℕ) (size count : ℕ) (is : IsLastSize sizes size count)
-    (whole : total sizes ≡ length bytes) where
-  pub the_last : LastPart is.before size bytes
-  the_last = last_part is.before size bytes (ap total (sym is.whole) ∙ whole)
+-- the last part and the bytes before it, from the last size and the sizes before it
+pub record LastPart (sizes before : List ℕ) (size : ℕ) (bytes : List ℕ) : Type 0 where
+  pub front : List ℕ
+  pub last : List ℕ
+  pub bytes_are : bytes ≡ front ++ last
+  pub front_whole : total before ≡ length front
+  pub last_size : length last ≡ size
+  pub front_parts : parts before front ≡ but_last (parts sizes bytes)
+  pub last_is : last ≡ last_of (parts sizes bytes)
 
-  all-parts : parts sizes bytes ≡ parts is.before the_last.front ++ the_last.last ∷ []
-  all-parts = ap (λ ns. parts ns bytes) is.whole ∙ the_last.parts_are
+module _ (sizes before bytes : List ℕ) (size : ℕ) (is : EndsBy sizes before size)
+    (whole : total sizes ≡ length bytes) where
+  last_part : (s : EndsBy sizes before size) → LastPart sizes before size bytes
+  last_part (inl last_is) =
+      let sum : total before + size ≡ length bytes = sym (total_more before size) ∙ ap total (sym last_is) ∙ whole in
+      let front : List ℕ = take (total before) bytes in
+      let last : List ℕ = drop (total before) bytes in
+      let all : bytes ≡ front ++ last = sym (take-append-drop (total before) bytes) in
+      let front_whole : total before ≡ length front = omega (arith, length-take (total before) bytes, sum) in
+      let last_size : length last ≡ size = omega (arith, length-drop (total before) bytes, sum) in
+      let all_parts : parts sizes bytes ≡ parts before front ++ last ∷ [] =
+      ap (λ ns. parts ns bytes) last_is
+      ∙ ap (λ n. parts (before ++ n ∷ []) bytes) (sym last_size)
+      ∙ ap (parts (before ++ length last ∷ [])) all
+      ∙ parts_more before front last front_whole in record {
+        front = front;
+        last = last;
+        bytes_are = all;
+        front_whole = front_whole;
+        last_size = last_size;
+        front_parts = sym (ap but_last all_parts ∙ but_last_of_more (parts before front) last);
+        last_is = sym (ap last_of all_parts ∙ last_of_more (parts before front) last);
+      }
+  last_part (inr none) = record {
+    front = [];
+    last = [];
+    bytes_are = no_bytes bytes (sym whole ∙ ap total none.0);
+    front_whole = ap total none.1;
+    last_size = sym none.2;
+    front_parts = ap (λ ns. parts ns []) none.1 ∙ sym (ap (λ ns. but_last (parts ns bytes)) none.0);
+    last_is = sym (ap (λ ns. last_of (parts ns bytes)) none.0);
+  }
+
+  pub the_last : LastPart sizes before size bytes
+  the_last = last_part is
 
   lengths : length bytes ≡ length the_last.front + size
   lengths =
@@ -97,11 +104,8 @@ module _ (sizes bytes : List ℕ) (size count : ℕ) (is : IsLastSize sizes size
   pub size_within : size ≤ length bytes
   size_within = omega (arith, lengths)
 
-  pub the_last_of : last_of (parts sizes bytes) ≡ the_last.last
-  the_last_of = ap last_of all-parts ∙ last_of_more (parts is.before the_last.front) the_last.last
-
   pub size_of_last : length (last_of (parts sizes bytes)) ≡ size
-  size_of_last = ap length the_last_of ∙ the_last.last_size
+  size_of_last = ap length (sym the_last.last_is) ∙ the_last.last_size
 
   before-last : length bytes - size ≡ length the_last.front
   before-last = omega (arith, lengths)
@@ -116,13 +120,7 @@ module _ (sizes bytes : List ℕ) (size count : ℕ) (is : IsLastSize sizes size
       ap (take (length bytes - (length bytes - size))) cut
       ∙ take_all (length bytes - (length bytes - size)) the_last.last
       (omega (arith, lengths, the_last.last_size))
-      ∙ sym the_last_of
-
-  sizes-before : take count sizes ≡ is.before
-  sizes-before =
-      ap (λ n. take n sizes) is.counted
-      ∙ ap (take (length is.before)) is.whole
-      ∙ take-append_seam is.before (size ∷ [])
+      ∙ the_last.last_is
 
   bytes-before : take (length bytes - size) bytes ≡ the_last.front
   bytes-before =
@@ -130,39 +128,39 @@ module _ (sizes bytes : List ℕ) (size count : ℕ) (is : IsLastSize sizes size
       ∙ ap (take (length the_last.front)) the_last.bytes_are
       ∙ take-append_seam the_last.front the_last.last
 
-  pub dropped_whole : total (take count sizes) ≡ length (take (length bytes - size) bytes)
-  dropped_whole = ap total sizes-before ∙ the_last.front_whole ∙ ap length (sym bytes-before)
+  pub dropped_whole : total before ≡ length (take (length bytes - size) bytes)
+  dropped_whole = the_last.front_whole ∙ ap length (sym bytes-before)
 
-  pub dropped_parts : parts (take count sizes) (take (length bytes - size) bytes) ≡ but_last (parts sizes bytes)
-  dropped_parts =
-      ap (λ ns. parts ns (take (length bytes - size) bytes)) sizes-before
-      ∙ ap (parts is.before) bytes-before
-      ∙ sym (ap but_last all-parts ∙ but_last_of_more (parts is.before the_last.front) the_last.last)
+  pub dropped_parts : parts before (take (length bytes - size) bytes) ≡ but_last (parts sizes bytes)
+  dropped_parts = ap (parts before) bytes-before ∙ the_last.front_parts
 
   module _ (b : ℕ) where
-    pub joined_whole : total (take count sizes ++ (size + 1) ∷ []) ≡ length (bytes ++ b ∷ [])
+    pub joined_whole : total (before ++ (size + 1) ∷ []) ≡ length (bytes ++ b ∷ [])
     joined_whole =
         omega (
           arith,
-          total_more (take count sizes) (size + 1),
-          ap total sizes-before,
+          total_more before (size + 1),
           the_last.front_whole,
           lengths,
           length-append bytes (b ∷ []),
         )
 
-    pub joined_parts : parts (take count sizes ++ (size + 1) ∷ []) (bytes ++ b ∷ []) ≡ with_joined (parts sizes bytes) b
+    pub joined_parts : parts (before ++ (size + 1) ∷ []) (bytes ++ b ∷ []) ≡ with_joined (parts sizes bytes) b
     joined_parts =
         let c : List ℕ = the_last.last ++ b ∷ [] in
         let long : size + 1 ≡ length c = omega (arith, length-append the_last.last (b ∷ []), the_last.last_size) in
         let all : bytes ++ b ∷ [] ≡ the_last.front ++ c =
         ap (λ bs. bs ++ b ∷ []) the_last.bytes_are ∙ append_assoc the_last.front the_last.last (b ∷ []) in
-        ap (λ ns. parts (ns ++ (size + 1) ∷ []) (bytes ++ b ∷ [])) sizes-before
-        ∙ ap (λ n. parts (is.before ++ n ∷ []) (bytes ++ b ∷ [])) long
-        ∙ ap (parts (is.before ++ length c ∷ [])) all
-        ∙ parts_more is.before the_last.front c the_last.front_whole
-        ∙ ap (λ cs. cs ++ c ∷ []) (sym (ap but_last all-parts ∙ but_last_of_more (parts is.before the_last.front) the_last.last))
-        ∙ ap (λ d. but_last (parts sizes bytes) ++ (d ++ b ∷ []) ∷ []) (sym the_last_of)
+        ap (λ n. parts (before ++ n ∷ []) (bytes ++ b ∷ [])) long
+        ∙ ap (parts (before ++ length c ∷ [])) all
+        ∙ parts_more before the_last.front c the_last.front_whole
+        ∙ ap (λ cs. cs ++ c ∷ []) the_last.front_parts
+        ∙ ap (λ d. but_last (parts sizes bytes) ++ (d ++ b ∷ []) ∷ []) the_last.last_is
+
+-- there are no more sizes before the last one
+pub no_longer : (sizes before : List ℕ) (size : ℕ) → EndsBy sizes before size → length before ≤ length sizes
+no_longer sizes before size (inl is) = omega (arith, ap length is, length-append before (size ∷ []))
+no_longer sizes before size (inr none) = omega (arith, ap length none.1)
 
 -- a part of one byte more
 pub added_whole : (sizes bytes : List ℕ) (b : ℕ) → total sizes ≡ length bytes

@@ -1,5 +1,5 @@
 -- Characters as their bytes and the sizes of each.
-use Rattle.std.specs.Prelude.{◌≡◌, ◌+◌, ℕ, Bool, List, [], ◌∷◌, ◌++◌, length, take, drop, if◌then◌else◌}
+use Rattle.std.specs.Prelude.{◌≡◌, ◌⊎◌, ◌+◌, ℕ, Bool, List, [], ◌∷◌, ◌++◌, length, take, drop, if◌then◌else◌}
 use Rattle.cooked.specs.KeptText.{but_last, last_of}
 use Rattle.vt_base.specs.Bytes.{Text}
 
@@ -19,11 +19,10 @@ pub record AreSizes (sizes bytes : Text) : Type 0 where
   pub bytes_room : length bytes.bytes + bytes.room ≡ 4096
   pub sizes_room : length sizes.bytes + sizes.room ≡ 4096
 
--- the last of these sizes, and how many are before it
-pub record IsLastSize (sizes : List ℕ) (size count : ℕ) : Type 0 where
-  pub before : List ℕ
-  pub whole : sizes ≡ before ++ size ∷ []
-  pub counted : count ≡ length before
+-- these are the sizes before, and this one; or there are none, and it is 0
+abbrev pub EndsBy : List ℕ → List ℕ → ℕ → Type 0
+EndsBy sizes before size =
+    (sizes ≡ before ++ size ∷ []) ⊎ ((sizes ≡ []) × (before ≡ []) × (size ≡ 0))
 
 -- the last character, with the byte added to it
 abbrev pub with_joined : List (List ℕ) → ℕ → List (List ℕ)

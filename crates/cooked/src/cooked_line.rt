@@ -8,10 +8,10 @@ ghost use Rattle.cooked.specs.KeptText.{kept_characters, kept_bytes, last_of};
 ghost use Rattle.cooked.specs.Kinds.{kind};
 ghost use Rattle.cooked.specs.Termios.{IsValid, mapped_byte};
 ghost use Rattle.vt_chars.specs.Characters.{is_part};
-ghost use Rattle.cooked.specs.declared.given.Given.TheVariants.{Nothing, Line, Byte, Sig};
+ghost use Rattle.cooked.specs.declared.given.Given.TheVariants.{Nothing, Line, Byte};
 ghost use Rattle.cooked.specs.declared.kind.Kind.TheVariants.{Erase, Data};
 
-use crate::echo::{BELL, caret, columns_of, data_echo, erase_echo, newline};
+use crate::echo::{BELL, caret, columns_of, data_echo, erase_echo, newline, single};
 use crate::echo_bytes::EchoBytes;
 use crate::given::Given;
 use crate::kept_text::{KeptText, LINE_BYTES};
@@ -73,10 +73,16 @@ impl Cooked {
     {
         let heard = self.termios.heard(b);
         let kind = self.termios.kind_of(heard);
-        self.show(heard, kind, echo);
+        *echo = self.echo_of(heard, kind);
         match kind {
-            Kind::Interrupt => self.signal(Signal::numbered(2)),
-            Kind::Quit => self.signal(Signal::numbered(3)),
+            Kind::Interrupt => {
+                self.restart();
+                Given::Sig(Signal::numbered(2))
+            }
+            Kind::Quit => {
+                self.restart();
+                Given::Sig(Signal::numbered(3))
+            }
             Kind::Kill => self.kill(),
             Kind::Erase => self.erase(b),
             Kind::Eof => self.finish(false),
@@ -108,45 +114,35 @@ impl Cooked {
         self.fresh.room() == 0
     }
 
-    // Echoes a byte, by the byte that it counts as.
-    fn show(&self, heard: u8, kind: Kind, echo: &mut EchoBytes)
-        requires { echo.old ≡ [] }
-        ensures { echo.new ≡ if self.now.termios.echo
+    // The echo of a byte, by the byte that it counts as.
+    fn echo_of(&self, heard: u8, kind: Kind) -> EchoBytes
+        ensures { result ≡ if self.now.termios.echo
             then echo_by self.now.termios self.now.fresh heard kind else [] }
     {
         if !self.termios.echo {
-            return;
+            return EchoBytes::new();
         }
         match kind {
-            Kind::Interrupt => caret(heard, echo),
-            Kind::Quit => caret(heard, echo),
-            Kind::Kill => newline(&self.termios, echo),
+            Kind::Interrupt => caret(heard),
+            Kind::Quit => caret(heard),
+            Kind::Kill => newline(&self.termios),
             Kind::Erase => {
                 if self.is_full() {
-                    echo.push(BELL);
+                    single(BELL)
                 } else {
-                    erase_echo(columns_of(self.kept.last()), echo);
+                    erase_echo(columns_of(self.kept.last()))
                 }
             }
-            Kind::Eof => {}
-            Kind::End => newline(&self.termios, echo),
+            Kind::Eof => EchoBytes::new(),
+            Kind::End => newline(&self.termios),
             Kind::Data => {
                 if self.is_full() {
-                    echo.push(BELL);
+                    single(BELL)
                 } else {
-                    data_echo(&self.termios, heard, echo);
+                    data_echo(&self.termios, heard)
                 }
             }
         }
-    }
-
-    // A signal: the typed bytes are forgotten.
-    fn signal(&mut self, s: Signal) -> Given
-        ensures state { self.new ≡ make_typing self.old.termios [] [] }
-        ensures given { result ≡ Sig s }
-    {
-        self.restart();
-        Given::Sig(s)
     }
 
     // A kill: the typed bytes are forgotten.

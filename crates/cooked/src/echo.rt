@@ -1,5 +1,5 @@
 //! The echo of a byte.
-ghost use Rattle.std.specs.Prelude.{◌≡◌, ◌≤◌, [], ◌++◌, length};
+ghost use Rattle.std.specs.Prelude.{◌≡◌, ◌≤◌, [], ◌∷◌, ◌++◌, length};
 ghost use Rattle.cooked.specs.Echo.{caret, columns_of, columns_shown, newline, data_echo, erase_echo};
 
 use crate::echo_bytes::EchoBytes;
@@ -10,51 +10,62 @@ use vt_chars::{Decoded, decode_all};
 /// BEL: the byte has no effect.
 pub(crate) const BELL: u8 = 0x07;
 
-pub(crate) fn newline(t: &Termios, echo: &mut EchoBytes)
-    requires { echo.old ≡ [] }
-    ensures { echo.new ≡ newline t.now }
+pub(crate) fn newline(t: &Termios) -> EchoBytes
+    ensures { result ≡ newline t.now }
 {
+    let mut echo = EchoBytes::new();
     if t.onlcr {
         echo.push(0x0D);
     }
     echo.push(0x0A);
+    echo
 }
 
 /// A control character is shown as `^` and a sign.
-pub(crate) fn caret(b: u8, echo: &mut EchoBytes)
-    requires { echo.old ≡ [] }
-    ensures { echo.new ≡ caret b }
+pub(crate) fn caret(b: u8) -> EchoBytes
+    ensures { result ≡ caret b }
 {
+    let mut echo = EchoBytes::new();
     echo.push(b'^');
     echo.push(b ^ 0x40);
+    echo
+}
+
+/// One byte as it is.
+pub(crate) fn single(b: u8) -> EchoBytes
+    ensures { result ≡ b ∷ [] }
+{
+    let mut echo = EchoBytes::new();
+    echo.push(b);
+    echo
 }
 
 /// The shown form of data.
-pub(crate) fn data_echo(t: &Termios, b: u8, echo: &mut EchoBytes)
-    requires { echo.old ≡ [] }
-    ensures { echo.new ≡ data_echo t.now b }
+pub(crate) fn data_echo(t: &Termios, b: u8) -> EchoBytes
+    ensures { result ≡ data_echo t.now b }
 {
     if b == 0x0A {
-        newline(t, echo);
+        newline(t)
     } else if is_control(b) {
-        caret(b, echo);
+        caret(b)
     } else {
-        echo.push(b);
+        single(b)
     }
 }
 
 /// Goes back over columns and wipes them.
-pub(crate) fn erase_echo(columns: u8, echo: &mut EchoBytes)
-    requires empty { echo.old ≡ [] }
-    requires few { columns ≤ 2 }
-    ensures { echo.new ≡ erase_echo columns }
+pub(crate) fn erase_echo(columns: u8) -> EchoBytes
+    requires { columns ≤ 2 }
+    ensures { result ≡ erase_echo columns }
 {
+    let mut echo = EchoBytes::new();
     if 1 <= columns {
-        wipe_one(echo);
+        wipe_one(&mut echo);
     }
     if 2 <= columns {
-        wipe_one(echo);
+        wipe_one(&mut echo);
     }
+    echo
 }
 
 fn wipe_one(echo: &mut EchoBytes)

@@ -1,7 +1,7 @@
-ghost use Rattle.std.specs.Prelude.{◌≡◌, ◌<◌, ◌+◌, [], ◌∷◌, ◌++◌, true, length, IfOk, IfSome, IfNone};
+ghost use Rattle.std.specs.Prelude.{◌≡◌, ◌<◌, ◌+◌, ℕ, List, [], ◌∷◌, ◌++◌, true, length, IfOk};
 ghost use Rattle.std.specs.List.{concat};
 ghost use Rattle.cooked.specs.KeptText.{but_last, last_of};
-ghost use Rattle.cooked.specs.Sizes.{IsLastSize, with_joined, with_put};
+ghost use Rattle.cooked.specs.Sizes.{EndsBy, with_put};
 ghost use Rattle.vt_chars.specs.Characters.{is_part};
 
 use std::alloc::Global;
@@ -53,10 +53,8 @@ impl KeptText {
         ensures { result.now ≡ last_of self.now }
     {
         let bytes = self.bytes.as_slice();
-        match last_size(self.sizes.as_slice()) {
-            Some((size, _)) => &bytes[bytes.len() - usize::from(size)..],
-            None => &[],
-        }
+        let size = last_size(self.sizes.as_slice());
+        &bytes[bytes.len() - usize::from(size)..]
     }
 
     /// Whether `b` goes on with the last character.
@@ -77,35 +75,12 @@ impl KeptText {
         requires few { joins ≡ true → length (last_of self.old) < 4 }
         ensures { self.new ≡ with_put joins self.old b }
     {
+        self.bytes.push(b);
         if joins {
-            self.join(b);
+            let size = take_size(&mut self.sizes);
+            self.sizes.push(size + 1);
         } else {
-            self.add(b);
-        }
-    }
-
-    fn add(&mut self, b: u8)
-        requires bytes { length (concat self.old) < 4096 }
-        requires characters { length self.old < 4096 }
-        ensures { self.new ≡ self.old ++ (b ∷ []) ∷ [] }
-    {
-        self.bytes.push(b);
-        self.sizes.push(1);
-    }
-
-    fn join(&mut self, b: u8)
-        requires bytes { length (concat self.old) < 4096 }
-        requires characters { length self.old < 4096 }
-        requires few { length (last_of self.old) < 4 }
-        ensures { self.new ≡ with_joined self.old b }
-    {
-        self.bytes.push(b);
-        match last_size(self.sizes.as_slice()) {
-            Some((size, before)) => {
-                self.sizes.truncate(before);
-                self.sizes.push(size + 1);
-            }
-            None => self.sizes.push(1),
+            self.sizes.push(1);
         }
     }
 
@@ -113,11 +88,9 @@ impl KeptText {
     pub(crate) fn drop_last(&mut self)
         ensures { self.new ≡ but_last self.old }
     {
-        if let Some((size, before)) = last_size(self.sizes.as_slice()) {
-            let len = self.bytes.as_slice().len();
-            self.sizes.truncate(before);
-            self.bytes.truncate(len - usize::from(size));
-        }
+        let size = take_size(&mut self.sizes);
+        let len = self.bytes.as_slice().len();
+        self.bytes.truncate(len - usize::from(size));
     }
 
     /// Drops all characters.
@@ -141,11 +114,26 @@ impl KeptText {
     }
 }
 
-// The last size, and how many sizes are before it.
-fn last_size(sizes: &[u8]) -> Option<(u8, usize)>
-    ensures some { IfSome result (λ p. IsLastSize sizes.now p.0 p.1) }
-    ensures none { IfNone result (sizes.now ≡ []) }
+// The last size: 0, if there is none.
+fn last_size(sizes: &[u8]) -> u8
+    ensures { (before : List ℕ) × EndsBy sizes.now before result }
 {
-    let (size, before) = sizes.split_last()?;
-    Some((*size, before.len()))
+    match sizes.split_last() {
+        Some((size, _)) => *size,
+        None => 0,
+    }
+}
+
+// Takes the last size away: 0, if there is none.
+fn take_size(sizes: &mut Bytes) -> u8
+    ensures size { EndsBy sizes.old.bytes sizes.new.bytes result }
+    ensures room { length sizes.new.bytes + sizes.new.room ≡ length sizes.old.bytes + sizes.old.room }
+{
+    let Some((last, before)) = sizes.as_slice().split_last() else {
+        return 0;
+    };
+    let size = *last;
+    let count = before.len();
+    sizes.truncate(count);
+    size
 }

@@ -2,7 +2,6 @@
 use Rattle.std.proofs.Common.{inl, inr, ◌≡◌, ℕ, Bool, true, false, List, [], get_or}
 use Rattle.std.proofs.Common.{sym, refl, ap, ◌∙◌, subst, Option, Some, None}
 use Rattle.std.proofs.lemmas.List.{get_or_default}
-use Rattle.std.specs.List.{All}
 use mathlib.Core.Option.{some, some-injective}
 use lib.ListN.{get_elem?}
 use Rattle.atomic_table.specs.Table.{State, Final, Seen}
@@ -16,7 +15,8 @@ use Rattle.turn_lock.specs.declared.view.Role.TheVariants.{First, Caller, Spent}
 use Rattle.turn_lock.specs.declared.view.Stage.TheVariants.{Idle}
 use Rattle.turn_lock.specs.History.{StartsWith, entries_by, IsWordIn, IsCounted, IsShown}
 use Rattle.turn_lock.specs.Views.{among, IsFirst, made_of, joined_of}
-use Rattle.turn_lock.specs.Words.{AllJoined, IsPartOf, NamesJoined}
+use Rattle.turn_lock.specs.Told.{Closes}
+use Rattle.turn_lock.specs.Words.{AllJoined}
 use Rattle.turn_lock.proofs.Seals.{Named_by}
 use Rattle.turn_lock.specs.Rule.{IsCaller, HasTurn, Named, Met, PartA, Rule}
 use Rattle.turn_lock.proofs.Lists.{same_at}
@@ -33,19 +33,6 @@ module _ {W Z : Type 0} where
   caller_named seat_of made joined j n (Caller k) h
       q = (ap (λ (i : ℕ). among i made) (sym h) ∙ q.2, ap seat_of (sym h) ∙ q.3)
   caller_named seat_of made joined j n Spent h q = absurd h
-
--- the facts of the value that `close` returns
-pub record Closes {K W Z : Type 0} (before : ℕ) (entries : K → List (Entry W))
-    (seal : K → Option (Seal Z)) (v : View W Z) (k : K) : Type 0 where
-  pub seen : StartsWith (entries k) v.seen
-  pub known : IsWordIn before (entries k) v.known
-  pub read : StartsWith (entries k) v.read
-  pub met : Met (seal k) (entries k) v.seal v.seen
-  pub joined : All (IsPartOf before (entries k) (seal k)) (joined_of v.role)
-  pub named : NamesJoined (seal k) (joined_of v.role)
-  pub counted : IsCounted (entries k)
-  pub shown : IsShown (entries k)
-  pub unmade : (n : ℕ) → among n (made_of v.role) ≡ false → entries_by n (entries k) ≡ []
 
 module _ {K W Z : Type 0} (before : ℕ) (entries : K → List (Entry W)) (seal : K → Option (Seal Z))
     (Right : List (Entry W) → Type 0) where
@@ -99,7 +86,7 @@ module _ {K W Z : Type 0} (before : ℕ) (entries : K → List (Entry W)) (seal 
   pub closes : (id : ℕ) (v : View W Z) (words : List ℕ) (slots : List (Option K)) → IsFirst v.role
       → v.stage ≡ Idle → AllJoined v.role
       → Final (Seen (Rule before entries seal Right) id v) words slots
-      → (k : K) × (get_elem? slots 0 ≡ some (Some k)) × Closes before entries seal v k
+      → (k : K) × (get_elem? slots 0 ≡ some (Some k)) × Closes before (entries k) (seal k) v
   closes id v words slots first idle all final =
       let s = final.0 in let rule = final.1.0 in let at = final.1.1 in
       let joined = rule.0 in let log = rule.1 in let a = rule.2 in let b = rule.3 in
@@ -150,7 +137,7 @@ module _ {K W Z : Type 0} (before : ℕ) (entries : K → List (Entry W)) (seal 
       → IsFirst v.role → v.stage ≡ Idle → AllJoined v.role
       → Final (Seen (Rule before entries seal Right) id v) words slots → (taken : Option K)
       → get_elem? slots 0 ≡ some taken
-      → (k : K) × (taken ≡ Some k) × Closes before entries seal v k
+      → (k : K) × (taken ≡ Some k) × Closes before (entries k) (seal k) v
   taken_out id v words slots first idle all final taken at =
       let h = closes id v words slots first idle all final in
       (h.0, some-injective taken (Some h.0) (sym at ∙ h.1), h.2)
@@ -159,7 +146,7 @@ module _ {K W Z : Type 0} (before : ℕ) (entries : K → List (Entry W)) (seal 
       → v.stage ≡ Idle → AllJoined v.role
       → Final (Seen (Rule before entries seal Right) id v) words slots → (taken : Option K)
       → get_elem? slots 0 ≡ some taken → (value : K) → taken ≡ Some value
-      → Closes before entries seal v value
+      → Closes before (entries value) (seal value) v
   closed id v words slots first idle all final taken at value is =
       let h = taken_out id v words slots first idle all final taken at in
-      let same : h.0 ≡ value = let e = h.1 in cc in subst (Closes before entries seal v) same h.2
+      let same : h.0 ≡ value = let e = h.1 in cc in subst (λ (k : K). Closes before (entries k) (seal k) v) same h.2

@@ -2,16 +2,18 @@
 -- number stored) and the pass after.
 use Rattle.std.specs.Prelude.{◌≡◌, ◌≢◌, true, false, ℕ, ◌/◌, ◌%◌, ◌^◌, ◌≤◌}
 use Rattle.std.specs.Prelude.{List, [], ◌∷◌, ◌++◌, length, Option, Some}
+use Rattle.std.specs.List.{All}
 use Rattle.atomic_table.specs.Table.{Me, Step}
 use Rattle.turn_lock.specs.declared.entry.Entry.{Entry}
 use Rattle.turn_lock.specs.declared.seal.Seal.{Seal}
 use Rattle.turn_lock.specs.declared.view.View.{View}
 use Rattle.turn_lock.specs.declared.view.Joined.{Joined}
-use Rattle.turn_lock.specs.History.{StartsWith, IsWordIn, IsDisplay, word_of}
+use Rattle.turn_lock.specs.History.{StartsWith, IsWordIn, IsDisplay, entries_by, word_of}
 use Rattle.turn_lock.specs.History.{IsCounted, IsShown}
 use Rattle.turn_lock.specs.Views.{among, joined_of, longer, made_of, ticket_of}
 use Rattle.turn_lock.specs.Views.{with_ticket, with_turn, with_published, without_turn, with_known_word}
-use Rattle.turn_lock.specs.Words.{HasMine, Stands, KnowsOwn, has_joined}
+use Rattle.turn_lock.specs.Rule.{Met}
+use Rattle.turn_lock.specs.Words.{HasMine, IsPartOf, NamesJoined, Stands, KnowsOwn, has_joined}
 
 -- the history and the seal that a pass finds when its turn comes
 pub record Finds {W Z : Type 0} (before : ℕ) (log : List (Entry W)) (seal : Option (Seal Z))
@@ -24,6 +26,20 @@ pub record Finds {W Z : Type 0} (before : ℕ) (log : List (Entry W)) (seal : Op
   pub own : KnowsOwn seal v
   pub counted : IsCounted log
   pub shown : IsShown log
+
+-- the first pass is right about the history and the seal that the lock shows when it closes
+pub record Closes {W Z : Type 0} (before : ℕ) (log : List (Entry W)) (seal : Option (Seal Z))
+    (v : View W Z) : Type 0 where
+  pub seen : StartsWith log v.seen
+  pub known : IsWordIn before log v.known
+  pub read : StartsWith log v.read
+  pub met : Met seal log v.seal v.seen
+  pub joined : All (IsPartOf before log seal) (joined_of v.role)
+  pub named : NamesJoined seal (joined_of v.role)
+  pub counted : IsCounted log
+  pub shown : IsShown log
+  -- a number that was not made has no entry
+  pub unmade : (n : ℕ) → among n (made_of v.role) ≡ false → entries_by n log ≡ []
 
 -- the word that a pass reads is that of this history
 pub record Reads {W Z : Type 0} (before : ℕ) (Right : List (Entry W) → Type 0) (log : List (Entry W))

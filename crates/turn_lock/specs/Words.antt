@@ -16,7 +16,7 @@ use Rattle.turn_lock.specs.declared.lock.TurnLock.{TurnLock}
 use Rattle.turn_lock.specs.declared.held.Held.{Held}
 use Rattle.turn_lock.specs.History.{StartsWith, entries_by, IsWordIn, IsDisplay}
 use Rattle.turn_lock.specs.Rule.{IsCaller, Met}
-use Rattle.turn_lock.specs.Views.{among, IsLive, made_of, joined_of}
+use Rattle.turn_lock.specs.Views.{among, IsFirst, IsLive, made_of, joined_of}
 
 module _ {K W Z : Type 0} where
   -- the knowledge of a pass
@@ -39,6 +39,14 @@ module _ {K W Z : Type 0} where
   -- the pass is one of this lock, and rests
   abbrev pub RestsIn : TurnLock K W Z → Pass K W Z → Type 0
   RestsIn lock p = (lock_named p ≡ name lock) × Rests p
+
+  -- the same, and this is its knowledge
+  abbrev pub RestsWith : TurnLock K W Z → View W Z → Pass K W Z → Type 0
+  RestsWith lock v p = RestsIn lock p × (view p ≡ v)
+
+  -- the pass is the first one of this lock, and rests
+  abbrev pub IsFirstIn : TurnLock K W Z → Pass K W Z → Type 0
+  IsFirstIn lock p = RestsIn lock p × IsFirst (view p).role
 
   -- the pass is one of this lock, and has the value: it has seen the whole history that the value showed
   abbrev pub HasTurnIn : TurnLock K W Z → Pass K W Z → Type 0

@@ -2,7 +2,7 @@ ghost use Rattle.std.specs.Prelude.{◌≡◌, ◌<◌, ◌^◌, ◌++◌, ◌�
 ghost use Rattle.turn_lock.specs.History.{word_of};
 ghost use Rattle.turn_lock.specs.declared.entry.Entry.{Entry};
 ghost use Rattle.turn_lock.specs.Views.{with_published, without_turn};
-ghost use Rattle.turn_lock.specs.Words.{AddsNext, HasTurnIn, MaySeal, RestsIn};
+ghost use Rattle.turn_lock.specs.Words.{AddsNext, HasTurnIn, MaySeal, RestsWith};
 ghost use Rattle.turn_lock.specs.Words.{lock_of, pass_of, value_of, view};
 
 use crate::atomic_steps::{Adding, EndTurn, StoreFront};
@@ -46,9 +46,8 @@ impl<'a, K: Kept> Held<'a, K> {
         requires own { HasTurnIn (lock_of self) (pass_of self) }
         requires told { K.entries (value_of self) ≡ (view (pass_of self)).seen }
         requires seal { MaySeal (K.seal (value_of self)) (view (pass_of self)) }
-        ensures own { RestsIn (lock_of self.entry) self.exit.1.0.now }
-        ensures view { view self.exit.1.0.now
-            ≡ without_turn (K.seal (value_of self.entry)) (view (pass_of self.entry)) }
+        ensures { RestsWith (lock_of self.entry)
+            (without_turn (K.seal (value_of self.entry)) (view (pass_of self.entry))) self.exit.1.0.now }
     {
         let Held { lock, pass, value } = self;
         let shared = &lock.board.shared;

@@ -33,19 +33,14 @@ pub struct TurnLock<K: Kept> {
 }
 
 impl<K: Kept> TurnLock<K> {
-    ghost use Rattle.std.specs.Prelude.{ℕ, ◌/◌, ◌%◌, ◌≤◌, ◌^◌, true, false, List, [], ◌∷◌, length, IfOk};
-    ghost use Rattle.std.specs.List.{All};
-    ghost use Rattle.turn_lock.specs.History.{StartsWith, IsWordIn, entries_by, word_of};
-    ghost use Rattle.turn_lock.specs.History.{IsCounted, IsDisplay, IsShown};
-    ghost use Rattle.turn_lock.specs.Rule.{Met};
-    ghost use Rattle.turn_lock.specs.Views.{HasNumber, IsFirst, IsLive, among, joined_of, longer};
-    ghost use Rattle.turn_lock.specs.Views.{both, with_turn, newcomer, number_of, as_caller, with_known_word};
-    ghost use Rattle.turn_lock.specs.Views.{made_of, with_number};
-    ghost use Rattle.turn_lock.specs.Words.{has_joined};
-    ghost use Rattle.turn_lock.specs.Words.{HasTurnIn, RestsIn, lock_of, name, pass_of, value_of, view};
-    ghost use Rattle.turn_lock.specs.Words.{AllJoined, HasMine, IsPartOf, KnowsOwn, NamesJoined, Stands};
-    ghost use Rattle.turn_lock.specs.Told.{Finds};
-    ghost use Rattle.turn_lock.specs.declared.view.Joined.{Joined};
+    ghost use Rattle.std.specs.Prelude.{ℕ, ◌%◌, ◌^◌, true, false, [], ◌∷◌, IfOk};
+    ghost use Rattle.turn_lock.specs.History.{StartsWith};
+    ghost use Rattle.turn_lock.specs.Views.{HasNumber, IsLive, among, joined_of, made_of, number_of};
+    ghost use Rattle.turn_lock.specs.Views.{as_caller, both, newcomer, with_known_word, with_number, with_turn};
+    ghost use Rattle.turn_lock.specs.Words.{AllJoined, has_joined};
+    ghost use Rattle.turn_lock.specs.Words.{HasTurnIn, IsFirstIn, RestsIn, RestsWith};
+    ghost use Rattle.turn_lock.specs.Words.{lock_of, name, pass_of, value_of, view};
+    ghost use Rattle.turn_lock.specs.Told.{Closes, Finds, Reads};
     ghost use Rattle.turn_lock.specs.declared.view.Stage.TheVariants.{Waits};
 
     /// A lock with this value under it, and the first pass, which has no number.
@@ -54,8 +49,7 @@ impl<K: Kept> TurnLock<K> {
         K: Drop,
         requires entries { K.entries value ≡ [] }
         requires seal { K.seal value ≡ None }
-        ensures pass { IfOk result (λ made. RestsIn made.0 made.1) }
-        ensures view { IfOk result (λ made. view made.1 ≡ newcomer K.before) }
+        ensures { IfOk result (λ made. RestsWith made.0 (newcomer K.before) made.1) }
     {
         let bells = Bells::hang(alloc)?;
         let door = Door::hang(alloc)?;
@@ -70,26 +64,20 @@ impl<K: Kept> TurnLock<K> {
 
     /// Makes a pass with this number.
     pub fn split(&self, p: &mut Pass<K>, number: u32) -> Pass<K>
-        requires own { RestsIn self.now p.old }
-        requires first { IsFirst (view p.old).role }
+        requires own { IsFirstIn self.now p.old }
         requires fresh { among number (made_of (view p.old).role) ≡ false }
-        ensures own { RestsIn self.now p.new }
-        ensures view { view p.new ≡ with_number number (view p.old) }
-        ensures made { RestsIn self.now result }
-        ensures made_view { view result ≡ as_caller number (view p.old) }
+        ensures own { RestsWith self.now (with_number number (view p.old)) p.new }
+        ensures made { RestsWith self.now (as_caller number (view p.old)) result }
     {
         self.split_as::<Brand>(p, number)
     }
 
     fn split_as<J: Picked>(&self, p: &mut Pass<K>, number: u32) -> Pass<K>
         requires picked { number ≡ J.number }
-        requires own { RestsIn self.now p.old }
-        requires first { IsFirst (view p.old).role }
+        requires own { IsFirstIn self.now p.old }
         requires fresh { among number (made_of (view p.old).role) ≡ false }
-        ensures own { RestsIn self.now p.new }
-        ensures view { view p.new ≡ with_number number (view p.old) }
-        ensures made { RestsIn self.now result }
-        ensures made_view { view result ≡ as_caller number (view p.old) }
+        ensures own { RestsWith self.now (with_number number (view p.old)) p.new }
+        ensures made { RestsWith self.now (as_caller number (view p.old)) result }
     {
         let place = self.board.shared.split_seat::<SplitStep<J>>(&mut p.place);
         Pass { place }
@@ -97,12 +85,10 @@ impl<K: Kept> TurnLock<K> {
 
     /// Joins another pass: the first pass then knows the longer history of both.
     pub fn join(&self, p: &mut Pass<K>, q: Pass<K>)
-        requires own { RestsIn self.now p.old }
-        requires first { IsFirst (view p.old).role }
+        requires own { IsFirstIn self.now p.old }
         requires other { RestsIn self.now q }
         requires numbered { HasNumber (view q).role }
-        ensures own { RestsIn self.now p.new }
-        ensures view { view p.new ≡ both (view p.old) (view q) }
+        ensures own { RestsWith self.now (both (view p.old) (view q)) p.new }
         ensures own_seen { StartsWith (view p.new).seen (view p.old).seen }
         ensures other_seen { StartsWith (view p.new).seen (view q).seen }
         ensures own_read { StartsWith (view p.new).read (view p.old).read }
@@ -111,44 +97,20 @@ impl<K: Kept> TurnLock<K> {
         ensures once { has_joined (number_of (view q).role) (joined_of (view p.old).role) ≡ false }
     {
         self.take_in(p, q);
-        self.compare(p);
+        // Of the two histories that they had seen one is a prefix of the other, and so it is with those
+        // that they had read. The number of the joined pass was made, and no other pass has it.
+        self.board.shared.load::<CompareJoined>(&mut p.place, NEXT);
     }
 
     // Joins another pass, and compares nothing yet.
     fn take_in(&self, p: &mut Pass<K>, q: Pass<K>)
-        requires own { RestsIn self.now p.old }
-        requires first { IsFirst (view p.old).role }
+        requires own { IsFirstIn self.now p.old }
         requires other { RestsIn self.now q }
         requires numbered { HasNumber (view q).role }
-        ensures own { RestsIn self.now p.new }
-        ensures view { view p.new ≡ both (view p.old) (view q) }
+        ensures { RestsWith self.now (both (view p.old) (view q)) p.new }
     {
         let Pass { place } = q;
         self.board.shared.join_seat::<JoinStep>(&mut p.place, place);
-    }
-
-    // Compares the first pass with the pass that it joined last. Of the two histories that they had seen
-    // one is a prefix of the other, and so it is with those that they had read. The number of the joined
-    // pass was made, and no other pass has it.
-    fn compare(&self, p: &mut Pass<K>)
-        requires own { RestsIn self.now p.old }
-        requires first { IsFirst (view p.old).role }
-        ensures own { RestsIn self.now p.new }
-        ensures view { view p.new ≡ view p.old }
-        ensures longer { (x : Joined K.What K.Stop) (xs : List (Joined K.What K.Stop))
-            → joined_of (view p.old).role ≡ x ∷ xs
-            → StartsWith (longer x.beside x.seen) x.beside
-            × StartsWith (longer x.beside x.seen) x.seen }
-        ensures read { (x : Joined K.What K.Stop) (xs : List (Joined K.What K.Stop))
-            → joined_of (view p.old).role ≡ x ∷ xs
-            → StartsWith (longer x.beside_read x.read) x.beside_read
-            × StartsWith (longer x.beside_read x.read) x.read }
-        ensures alone { (x : Joined K.What K.Stop) (xs : List (Joined K.What K.Stop))
-            → joined_of (view p.old).role ≡ x ∷ xs
-            → (among x.number (made_of (view p.old).role) ≡ true)
-            × (has_joined x.number xs ≡ false) }
-    {
-        self.board.shared.load::<CompareJoined>(&mut p.place, NEXT);
     }
 
     /// Waits for this pass's turn and returns the value.
@@ -160,14 +122,7 @@ impl<K: Kept> TurnLock<K> {
         ensures view { (ticket : ℕ)
             × (view (pass_of result)
             ≡ with_turn ticket (K.entries (value_of result)) (K.seal (value_of result)) (view p.old)) }
-        ensures seen { StartsWith (K.entries (value_of result)) (view p.old).seen }
-        ensures mine { HasMine (K.entries (value_of result)) (view p.old).role (view p.old).mine }
-        ensures known { IsWordIn K.before (K.entries (value_of result)) (view p.old).known }
-        ensures read { StartsWith (K.entries (value_of result)) (view p.old).read }
-        ensures stands { Stands (K.seal (value_of result)) (K.entries (value_of result)) (view p.old) }
-        ensures named { KnowsOwn (K.seal (value_of result)) (view p.old) }
-        ensures counted { IsCounted (K.entries (value_of result)) }
-        ensures shown { IsShown (K.entries (value_of result)) }
+        ensures finds { Finds K.before (K.entries (value_of result)) (K.seal (value_of result)) (view p.old) }
     {
         self.stand_aside(rt);
         let ticket = self
@@ -259,38 +214,17 @@ impl<K: Kept> TurnLock<K> {
     /// Reads the word of the history without waiting.
     pub fn front(&self, p: &mut Pass<K>) -> u64
         requires { RestsIn self.now p.old }
-        ensures own { RestsIn self.now p.new }
-        ensures view { view p.new ≡ with_known_word (view p.new).read result (view p.old) }
-        ensures word { result ≡ word_of K.before (view p.new).read }
-        ensures count { result / 64 ≡ length (view p.new).read }
-        ensures right { K.right (view p.new).read }
-        ensures after { StartsWith (view p.new).read (view p.old).seen }
-        ensures read { StartsWith (view p.new).read (view p.old).read }
-        ensures seen { length (view p.old).seen ≤ result / 64 }
-        ensures known { (view p.old).known / 64 ≤ result / 64 }
-        ensures greatest { (view p.old).known ≤ result }
-        ensures display { IsDisplay (result % 64) }
+        ensures own { RestsWith self.now (with_known_word (view p.new).read result (view p.old)) p.new }
+        ensures reads { Reads K.before K.right (view p.new).read result (view p.old) }
     {
         self.board.shared.load::<LoadFront>(&mut p.place, FRONT)
     }
 
     /// Closes the lock and returns the value, if all other passes have been joined.
     pub fn close(self, p: Pass<K>) -> K
-        requires own { RestsIn self p }
-        requires first { IsFirst (view p).role }
+        requires own { IsFirstIn self p }
         requires all { AllJoined (view p).role }
-        ensures seen { StartsWith (K.entries result) (view p).seen }
-        ensures known { IsWordIn K.before (K.entries result) (view p).known }
-        ensures read { StartsWith (K.entries result) (view p).read }
-        ensures met { Met (K.seal result) (K.entries result) (view p).seal (view p).seen }
-        ensures joined { All (IsPartOf K.before (K.entries result) (K.seal result))
-            (joined_of (view p).role) }
-        ensures named { NamesJoined (K.seal result) (joined_of (view p).role) }
-        ensures counted { IsCounted (K.entries result) }
-        ensures shown { IsShown (K.entries result) }
-        ensures unmade { (number : ℕ)
-            → among number (made_of (view p).role) ≡ false
-            → entries_by number (K.entries result) ≡ [] }
+        ensures { Closes K.before (K.entries result) (K.seal result) (view p) }
     {
         let mut closed = shut(self.board, p.place);
         let value = closed.take(SLOT).unwrap();

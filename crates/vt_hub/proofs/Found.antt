@@ -2,10 +2,11 @@
 use Rattle.std.proofs.Common.{◌≡◌, ℕ, ◌+◌, ◌*◌, ◌<◌, ◌≤◌, ◌==◌, List, [], ◌∷◌, ◌++◌, length, Option, Some, None, refl, sym, ap, ◌∙◌, subst, arith, length-append}
 use Rattle.std.proofs.lemmas.List.{length-map}
 use Rattle.std.proofs.lemmas.List.Sums.{count_by-le-length, length-filter}
-use Rattle.turn_lock.specs.History.{IsWordIn, StartsWith, word_of}
+use Rattle.turn_lock.specs.History.{IsWordIn, word_of}
 use Rattle.turn_lock.specs.Rule.{IsCaller}
 use Rattle.turn_lock.specs.Views.{with_turn, with_published, without_turn}
-use Rattle.turn_lock.specs.Words.{AddsNext, HasMine, KnowsOwn, Stands}
+use Rattle.turn_lock.specs.Told.{Finds}
+use Rattle.turn_lock.specs.Words.{AddsNext, HasMine}
 use Rattle.turn_lock.specs.declared.seal.Seal.{Seal}
 use Rattle.turn_lock.specs.declared.view.Role.{Role}
 use Rattle.turn_lock.specs.declared.view.Role.TheVariants.{Caller}
@@ -30,45 +31,33 @@ use Rattle.vt_world.specs.History.{IsLegal, replay}
 use Rattle.vt_world.specs.State.{WorldState, is_waiting}
 use Rattle.vt_world.specs.Step.{step}
 
--- the value that the pass of this number, with the view v of the lock, finds at its turn
+-- the value that the pass of this number, with the view v of the lock, finds at its turn, and its view then
 pub record Found (start : WorldState) (most : Limits) (number seq : ℕ) (v : View Entry Full)
-    (s : SharedView) : Type 0 where
+    (s : SharedView) (held : View Entry Full) : Type 0 where
   pub sound : IsSound start most s
   pub named : v.role ≡ Caller number
   pub counted : seq ≡ length v.mine
-  pub begins : StartsWith (carried_entries start s.log.entries) v.seen
-  pub owns : HasMine (carried_entries start s.log.entries) v.role v.mine
-  pub reads : IsWordIn (display_of start) (carried_entries start s.log.entries) v.known
-  pub looked : StartsWith (carried_entries start s.log.entries) v.read
-  pub stands : Stands s.stop (carried_entries start s.log.entries) v
-  pub knows : KnowsOwn s.stop v
+  pub finds : Finds (display_of start) (carried_entries start s.log.entries) s.stop v
+  pub ticket : ℕ
+  pub has : held ≡ with_turn ticket (carried_entries start s.log.entries) s.stop v
 
 -- from the clauses of the lock on the value that it returns, which s is
 pub found_from : (start : WorldState) (most : Limits) (number seq : ℕ) (v : View Entry Full)
-    (old s : SharedView) → s ≡ old → IsSound start most s → v.role ≡ Caller number
-    → seq ≡ length v.mine → StartsWith (carried_entries start old.log.entries) v.seen
-    → HasMine (carried_entries start old.log.entries) v.role v.mine
-    → IsWordIn (display_of start) (carried_entries start old.log.entries) v.known
-    → StartsWith (carried_entries start old.log.entries) v.read
-    → Stands old.stop (carried_entries start old.log.entries) v → KnowsOwn old.stop v
-    → Found start most number seq v s
-found_from start most number seq v old s same sound named counted begins owns reads looked
-    stands knows = record {
-      sound = sound;
-      named = named;
-      counted = counted;
-      begins = subst (λ (o : SharedView). StartsWith (carried_entries start o.log.entries) v.seen) (sym same)
-          begins;
-      owns = subst (λ (o : SharedView). HasMine (carried_entries start o.log.entries) v.role v.mine) (sym same)
-          owns;
-      reads = subst (λ (o : SharedView).
-          IsWordIn (display_of start) (carried_entries start o.log.entries) v.known) (sym same) reads;
-      looked = subst (λ (o : SharedView). StartsWith (carried_entries start o.log.entries) v.read) (sym same)
-          looked;
-      stands = subst (λ (o : SharedView). Stands o.stop (carried_entries start o.log.entries) v) (sym same)
-          stands;
-      knows = subst (λ (o : SharedView). KnowsOwn o.stop v) (sym same) knows;
-    }
+    (old s : SharedView) (held : View Entry Full) → s ≡ old → IsSound start most s
+    → v.role ≡ Caller number → seq ≡ length v.mine
+    → Finds (display_of start) (carried_entries start old.log.entries) old.stop v
+    → ((ticket : ℕ) × (held ≡ with_turn ticket (carried_entries start old.log.entries) old.stop v))
+    → Found start most number seq v s held
+found_from start most number seq v old s held same sound named counted finds has = record {
+  sound = sound;
+  named = named;
+  counted = counted;
+  finds = subst (λ (o : SharedView). Finds (display_of start) (carried_entries start o.log.entries) o.stop v)
+      (sym same) finds;
+  ticket = has.0;
+  has = has.1 ∙ ap (λ (o : SharedView). with_turn has.0 (carried_entries start o.log.entries) o.stop v)
+      (sym same);
+}
 
 -- the pass after its turn: it has seen this history
 pub record Left (hub : TableId) (number : ℕ) (v : View Entry Full) (seen mine : List Entry)
@@ -116,14 +105,14 @@ met_before p e v z is = record {
     same_seal a b same = cc
 
 module _ (start : WorldState) (most : Limits) (number seq : ℕ) (v : View Entry Full)
-    (s : SharedView) (found : Found start most number seq v s) where
+    (s : SharedView) (held : View Entry Full) (found : Found start most number seq v s held) where
   pub first : display_of start ≡ start.display.front
   first = first_display start found.sound.display_low found.sound.display_high
 
   pub made : plain v.mine ≡ made_by number s.log.entries
   made =
       ap plain (subst (λ (r : Role Entry Full). HasMine (carried_entries start s.log.entries) r v.mine)
-      found.named found.owns)
+      found.named found.finds.mine)
       ∙ made_carried_entries number start s.log.entries
 
   -- its number of calls is that of its entries
@@ -133,30 +122,29 @@ module _ (start : WorldState) (most : Limits) (number seq : ℕ) (v : View Entry
       ∙ (sym (length-map v.mine (λ (e : Carried). e.what)) ∙ ap length made)
 
   pub later : List Entry
-  later = plain found.begins.0
+  later = plain found.finds.seen.0
 
   pub seen : s.log.entries ≡ plain v.seen ++ later
   unfolding later
   seen =
       sym (plain-carried_entries start s.log.entries)
-      ∙ (ap plain found.begins.1 ∙ plain_more v.seen found.begins.0)
+      ∙ (ap plain found.finds.seen.1 ∙ plain_more v.seen found.finds.seen.0)
 
   -- the history that it had read is a prefix
   pub kept : BeginsWith s.log.entries (plain v.read)
-  kept = begins_plain start s.log.entries v.read found.looked
+  kept = begins_plain start s.log.entries v.read found.finds.read
 
   pub read : IsRead start s.log.entries v.known
-  read = read_carried_entries start s.log.entries v.known first found.reads
+  read = read_carried_entries start s.log.entries v.known first found.finds.known
 
   pub unmet : s.stop ≡ None → v.seal ≡ None
-  unmet none = no_seal v.seal s.stop (λ z is. (found.stands z is).0) none
+  unmet none = no_seal v.seal s.stop (λ z is. (found.finds.stands z is).0) none
 
   -- the entry that a call adds is the next one of the pass
-  pub adds : (ticket : ℕ) (s' : SharedView) (e : Event) (place : ℕ) (r : Reply)
+  pub adds : (s' : SharedView) (e : Event) (place : ℕ) (r : Reply)
       → Enters number seq e s s' place r → IsSound start most s'
-      → AddsNext (carried_entries start s'.log.entries)
-      (with_turn ticket (carried_entries start s.log.entries) s.stop v)
-  adds ticket s' e place r enters sound =
+      → AddsNext (carried_entries start s'.log.entries) held
+  adds s' e place r enters sound =
       let entry : Entry = enters.entry in
       let grown : carried_entries start s'.log.entries ≡ carried_entries start s.log.entries
       ++ carried_entry (front_after start s.log.entries entry) entry ∷ [] =
@@ -164,7 +152,7 @@ module _ (start : WorldState) (most : Limits) (number seq : ℕ) (v : View Entry
       let after : s'.world.display.front ≡ front_after start s.log.entries entry =
       ap (λ (w : WorldState). w.display.front)
       (sound.replayed ∙ (ap (replay start) enters.entries ∙ replay-one start s.log.entries entry))
-      in (
+      in subst (AddsNext (carried_entries start s'.log.entries)) (sym found.has) (
         carried_entry (front_after start s.log.entries entry) entry,
         grown,
         found.named ∙ ap (λ (n : ℕ). Caller n) (sym enters.caller),
@@ -221,7 +209,7 @@ module _ (start : WorldState) (most : Limits) (number seq : ℕ) (v : View Entry
             (subst (λ (l : List Carried). IsWordIn (display_of start) l v.known)
             (sym (ap (carried_entries start) enters.entries ∙ carried_entries_more start es entry))
             (word_grown (display_of start) (carried_entries start es)
-            (carried_entry (front_after start es entry) entry ∷ []) v.known found.reads)));
+            (carried_entry (front_after start es entry) entry ∷ []) v.known found.finds.known)));
         kept = begins_more w.seen es (plain v.read) (entry ∷ []) whole kept;
       }
 
@@ -235,7 +223,7 @@ module _ (start : WorldState) (most : Limits) (number seq : ℕ) (v : View Entry
           let named : z.by ≡ number = ap (λ (y : Seal Full). y.by) (stops.again z is) ∙ by in
           let mine : IsCaller z.by v.role =
           subst (IsCaller z.by) (sym found.named) (sym named) in
-          let bad : None ≡ Some z = sym unmet ∙ found.knows z is mine in absurd cc
+          let bad : None ≡ Some z = sym unmet ∙ found.finds.own z is mine in absurd cc
 
   pub stopped : (hub : TableId) (s' : SharedView) (e : Event) (full : Full) (w : PassView)
       → Stops number e s s' full → IsSound start most s'
@@ -261,7 +249,7 @@ module _ (start : WorldState) (most : Limits) (number seq : ℕ) (v : View Entry
         by = stops.by;
         met = left.stop_is ∙ stops.stop;
         again = λ z is.
-            let stands = found.stands z is in (
+            let stands = found.finds.stands z is in (
               stops.again z stands.0,
               left.seen_is
                   ∙ (sym (plain-carried_entries start s.log.entries) ∙ ap plain stands.1),
@@ -295,9 +283,7 @@ module _ (start : WorldState) (most : Limits) (number seq : ℕ) (v : View Entry
 
   -- the result of its turn, with the views of the lock at its turn, after it published the entry, and
   -- after it left
-  module _ (hub : TableId) (old : PassView) (is : known_by hub number v ≡ old) (here : TableId)
-      (home : here ≡ hub) (ticket : ℕ) (s' : SharedView) (held after : View Entry Full)
-      (has : held ≡ with_turn ticket (carried_entries start s.log.entries) s.stop v) where
+  module _ (s' : SharedView) (after : View Entry Full) where
     module _ (e : Event) (place : ℕ) (r : Reply) (enters : Enters number seq e s s' place r)
         (shown : View Entry Full) (shows : shown ≡ with_published (carried_entries start s'.log.entries) held)
         (adds_one : (x : Carried) → carried_entries start s'.log.entries ≡ held.seen ++ x ∷ []
@@ -312,10 +298,10 @@ module _ (start : WorldState) (most : Limits) (number seq : ℕ) (v : View Entry
           let grown : carried_entries start s'.log.entries ≡ held.seen ++ entry_carried ∷ [] =
           ap (carried_entries start) enters.entries
           ∙ (carried_entries_more start s.log.entries enters.entry
-          ∙ ap (λ (x : View Entry Full). x.seen ++ entry_carried ∷ []) (sym has)) in
+          ∙ ap (λ (x : View Entry Full). x.seen ++ entry_carried ∷ []) (sym found.has)) in
           ap (λ (x : View Entry Full). x.mine) left
           ∙ (adds_one entry_carried grown
-          ∙ ap (λ (x : View Entry Full). x.mine ++ entry_carried ∷ []) has)
+          ∙ ap (λ (x : View Entry Full). x.mine ++ entry_carried ∷ []) found.has)
 
       after-whole : after ≡ without_turn s'.stop (with_published (carried_entries start s'.log.entries) held)
       after-whole = left ∙ ap (without_turn s'.stop) shows
@@ -323,7 +309,7 @@ module _ (start : WorldState) (most : Limits) (number seq : ℕ) (v : View Entry
       pub role_after : after.role ≡ Caller number
       role_after =
           ap (λ (x : View Entry Full). x.role) after-whole
-          ∙ (ap (λ (x : View Entry Full). x.role) has ∙ found.named)
+          ∙ (ap (λ (x : View Entry Full). x.role) found.has ∙ found.named)
 
       pub counted_after : seq + 1 ≡ length after.mine
       unfolding entry_carried
@@ -332,17 +318,18 @@ module _ (start : WorldState) (most : Limits) (number seq : ℕ) (v : View Entry
           let one = length-append v.mine (entry_carried ∷ []) in
           let counted = found.counted in omega (arith, long, one, counted)
 
-      pub done : IsSound start most s' → Called start most e old (known_by here number after) place r
+      pub done : (hub : TableId) (old : PassView) → known_by hub number v ≡ old → (here : TableId)
+          → here ≡ hub → IsSound start most s' → Called start most e old (known_by here number after) place r
       unfolding entry_carried
-      done sound = subst
+      done hub old is here home sound = subst
           (λ (o : PassView). Called start most e o (known_by here number after) place r) is
           (called hub s' e place r (known_by here number after) enters sound (record {
             hub_is = home;
             number_is = refl;
             known_is = ap (λ (x : View Entry Full). x.known) after-whole
-                ∙ ap (λ (x : View Entry Full). x.known) has;
+                ∙ ap (λ (x : View Entry Full). x.known) found.has;
             read_is = ap (λ (x : View Entry Full). plain x.read) after-whole
-                ∙ ap (λ (x : View Entry Full). plain x.read) has;
+                ∙ ap (λ (x : View Entry Full). plain x.read) found.has;
             seen_is = ap (λ (x : View Entry Full). plain x.seen) after-whole
                 ∙ plain-carried_entries start s'.log.entries;
             mine_is = ap plain after-mine ∙ plain_more v.mine (entry_carried ∷ []);
@@ -350,36 +337,32 @@ module _ (start : WorldState) (most : Limits) (number seq : ℕ) (v : View Entry
           }))
 
     module _ (left : after ≡ without_turn s'.stop held) where
-      left-whole : after ≡ without_turn s'.stop (with_turn ticket (carried_entries start s.log.entries) s.stop v)
-      left-whole = left ∙ ap (without_turn s'.stop) has
+      left-whole : after ≡ without_turn s'.stop (with_turn found.ticket (carried_entries start s.log.entries) s.stop v)
+      left-whole = left ∙ ap (without_turn s'.stop) found.has
 
-      same-seen : plain after.seen ≡ s.log.entries
-      same-seen = ap (λ (x : View Entry Full). plain x.seen) left-whole
-          ∙ plain-carried_entries start s.log.entries
+      module _ (hub : TableId) (old : PassView) (is : known_by hub number v ≡ old) (here : TableId)
+          (home : here ≡ hub) where
+        stays : Left hub number v s.log.entries (plain v.mine) s'.stop (known_by here number after)
+        stays = record {
+          hub_is = home;
+          number_is = refl;
+          known_is = ap (λ (x : View Entry Full). x.known) left-whole;
+          read_is = ap (λ (x : View Entry Full). plain x.read) left-whole;
+          seen_is = ap (λ (x : View Entry Full). plain x.seen) left-whole
+              ∙ plain-carried_entries start s.log.entries;
+          mine_is = ap (λ (x : View Entry Full). plain x.mine) left-whole;
+          stop_is = ap (λ (x : View Entry Full). x.seal) left-whole;
+        }
 
-      pub full : (e : Event) (full : Full) → Stops number e s s' full → IsSound start most s'
-          → Stopped start most e old (known_by here number after) full
-      full e answer stops sound = subst
-          (λ (o : PassView). Stopped start most e o (known_by here number after) answer) is
-          (stopped hub s' e answer (known_by here number after) stops sound (record {
-            hub_is = home;
-            number_is = refl;
-            known_is = ap (λ (x : View Entry Full). x.known) left-whole;
-            read_is = ap (λ (x : View Entry Full). plain x.read) left-whole;
-            seen_is = same-seen;
-            mine_is = ap (λ (x : View Entry Full). plain x.mine) left-whole;
-            stop_is = ap (λ (x : View Entry Full). x.seal) left-whole;
-          }))
+        pub full : (e : Event) (full : Full) → Stops number e s s' full → IsSound start most s'
+            → Stopped start most e old (known_by here number after) full
+        full e answer stops sound = subst
+            (λ (o : PassView). Stopped start most e o (known_by here number after) answer) is
+            (stopped hub s' e answer (known_by here number after) stops sound stays)
 
-      pub waits : Waits number s s' → Waited start old (known_by here number after)
-      waits waiting = subst (λ (o : PassView). Waited start o (known_by here number after)) is
-          (waited hub s' (known_by here number after) waiting (record {
-            hub_is = home;
-            number_is = refl;
-            known_is = ap (λ (x : View Entry Full). x.known) left-whole;
-            read_is = ap (λ (x : View Entry Full). plain x.read) left-whole;
-            seen_is = same-seen;
-            mine_is = ap (λ (x : View Entry Full). plain x.mine) left-whole;
-            stop_is = ap (λ (x : View Entry Full). x.seal) left-whole
-                ∙ (ap (λ (x : SharedView). x.stop) waiting.same ∙ waiting.met);
-          }))
+        pub waits : Waits number s s' → Waited start old (known_by here number after)
+        waits waiting = subst (λ (o : PassView). Waited start o (known_by here number after)) is
+            (waited hub s' (known_by here number after) waiting
+            (subst (λ (z : Option (Seal Full)).
+            Left hub number v s.log.entries (plain v.mine) z (known_by here number after))
+            (ap (λ (x : SharedView). x.stop) waiting.same ∙ waiting.met) stays))

@@ -5,7 +5,6 @@ use Rattle.std.proofs.lemmas.Option.{none-some, slice_get-get_or}
 use Rattle.std.specs.Prelude.{slice_get}
 use Rattle.atomic_table.specs.Seated.{TableId}
 use Rattle.vt_base.specs.declared.errno.Errno.{Errno}
-use Rattle.vt_events.specs.Plain.{plain_reply}
 use Rattle.vt_events.specs.Waits.{is_wait}
 use Rattle.vt_events.specs.declared.entry.Entry.{Entry}
 use Rattle.vt_events.specs.declared.event.Event.{Event}
@@ -13,6 +12,7 @@ use Rattle.vt_events.specs.declared.event.Event.TheVariants.{WaitEnd}
 use Rattle.vt_events.specs.declared.reply.Reply.{Reply}
 use Rattle.vt_events.specs.declared.reply.Reply.TheVariants as reply
 use Rattle.vt_hub.specs.Answers.{Answers}
+use Rattle.vt_hub.proofs.Lists.{plain_waits, waits_more}
 use Rattle.vt_hub.specs.Histories.{awaits, waits_by}
 use Rattle.vt_hub.specs.Ready.{IsReady, is_told_to_wait}
 use Rattle.vt_hub.specs.Views.{PassView}
@@ -28,14 +28,6 @@ use Rattle.vt_world.specs.Refusals.{caller, common_refusals, first_refusal}
 use Rattle.vt_world.specs.Rows.{ended_reply}
 use Rattle.vt_world.specs.State.{WorldState}
 use Rattle.vt_world.specs.Step.{outcome_of_row, row_result_after, row_result, step}
-
-plain_waits : (r : Reply) → is_wait (plain_reply r) ≡ is_wait r
-plain_waits (reply.Text b) = refl
-plain_waits r = refl
-
-last_waits : (known : Bool) (es : List Entry) (e : Entry) → waits_by known (es ++ e ∷ []) ≡ is_wait e.reply
-last_waits known [] e = refl
-last_waits known (x ∷ es) e = last_waits (is_wait x.reply) es e
 
 -- the answer is how a wait ended, and is no wait itself
 ended_waits : (w : Waiting) → is_wait (ended_reply w) ≡ false
@@ -80,7 +72,7 @@ pub ready_after : (start : WorldState) (most : Limits) (e : Event) (here : Table
 ready_after start most e here v w (answer.Done place r) own called = record {
   own = called.hub ∙ own;
   free = λ goes met.
-      ap awaits called.mine ∙ last_waits false v.mine called.entry
+      ap awaits called.mine ∙ waits_more false v.mine called.entry
       ∙ sym (plain_waits called.entry.reply) ∙ ap is_wait called.reply ∙ plain_waits r ∙ goes;
 }
 ready_after start most e here v w (answer.Full full) own stopped = record {

@@ -11,7 +11,7 @@ use Rattle.vt_events.specs.declared.reply.Reply.{Reply}
 use Rattle.vt_events.specs.declared.reply.Reply.TheVariants as reply
 use Rattle.vt_hub.specs.Histories.{IsFree, awaits, made_by}
 use Rattle.vt_hub.specs.Shared.{IsSound, IsStop, SharedView}
-use Rattle.vt_hub.proofs.Lists.{each_more, made_other, made_own, waits_more}
+use Rattle.vt_hub.proofs.Lists.{each_more, made_other, made_own, plain_waits, waits_more}
 use Rattle.turn_lock.specs.declared.seal.Seal.{Seal}
 use Rattle.vt_journal.specs.declared.full.Full.{Full}
 use Rattle.vt_journal.specs.declared.limits.Limits.{Limits}
@@ -19,17 +19,6 @@ use Rattle.vt_world.specs.History.{IsLegal, IsNext, LegalGrows, ReplayGrows, rep
 use Rattle.vt_world.specs.State.{WorldState, is_waiting}
 use Rattle.vt_world.specs.Step.{HasOutcome, Outcome, step}
 use Rattle.vt_world.specs.StepLaws.{SizesStay, TicketsAreCalled}
-
-wait_plain : (r : Reply) → is_wait (plain_reply r) ≡ is_wait r
-wait_plain reply.Done = refl
-wait_plain (reply.Num n) = refl
-wait_plain (reply.State front mask) = refl
-wait_plain (reply.Text b) = refl
-wait_plain (reply.Mode m) = refl
-wait_plain (reply.Act kind value) = refl
-wait_plain reply.Wait = refl
-wait_plain (reply.Sigs signals) = refl
-wait_plain (reply.Err errno) = refl
 
 -- the entry is that of the call e of caller p, and so are its answer and its number
 pub record IsEntryOf (p seq : ℕ) (e : Event) (r : Reply) (entry : Entry) : Type 0 where
@@ -77,7 +66,7 @@ module _ (start : WorldState) (most : Limits) (v w : SharedView) (p seq : ℕ) (
       of.reply ∙ (sym (ap (λ (o : Outcome). o.reply) gives) ∙ now.1) in
       ap awaits (made_own q v.log.entries entry own)
       ∙ (waits_more false (made_by q v.log.entries) entry
-      ∙ (sym (wait_plain entry.reply) ∙ ap is_wait answer)))
+      ∙ (sym (plain_waits entry.reply) ∙ ap is_wait answer)))
       (called v.world p e q (ap (λ (x : WorldState). is_waiting x q) world ∙ opened))
 
   pub enters : LegalGrows → ReplayGrows → SizesStay → TicketsAreCalled

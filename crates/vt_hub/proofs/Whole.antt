@@ -1,12 +1,15 @@
 -- The result of closing a hub, from that of closing the lock.
-use Rattle.std.proofs.Common.{◌≡◌, ⊎_elim, ℕ, zero, suc, false, List, [], ◌∷◌, map, Option, Some, None, refl, sym, ap, ◌∙◌, subst, arith}
+use Rattle.std.proofs.Common.{◌≡◌, ⊎_elim, ℕ, zero, suc, false, List, [], ◌∷◌, map, Option, Some, None, refl, sym, ap, ◌∙◌, subst, get_or}
+use Rattle.std.proofs.lemmas.List.Elements.{All-map}
+use Rattle.std.proofs.lemmas.Option.{get_or_from_slice_get, slice_get_within}
 use Rattle.std.specs.List.{All}
 use Rattle.std.specs.Prelude.{option_map, slice_get, slice_index_or}
 use mathlib.Core.Option.{some, some-injective, some-ne-none}
 use lib.ListN.{get_elem?}
-use Rattle.turn_lock.specs.History.{IsWordIn, StartsWith, entries_by}
+use Rattle.turn_lock.specs.History.{StartsWith}
 use Rattle.turn_lock.specs.Views.{among, joined_of, made_of}
-use Rattle.turn_lock.specs.Words.{IsPartOf, NamesJoined}
+use Rattle.turn_lock.specs.Told.{Closes}
+use Rattle.turn_lock.specs.Words.{IsPartOf}
 use Rattle.turn_lock.specs.declared.seal.Seal.{Seal}
 use Rattle.turn_lock.specs.declared.view.Joined.{Joined}
 use Rattle.turn_lock.specs.declared.view.View.{View}
@@ -30,15 +33,6 @@ use Rattle.vt_world.specs.Tapes.{screen_of, tape_of}
 use Rattle.vt_world.specs.Terminals.{machine_of, terminal_at}
 
 module _ {A B : Type 0} where
-  -- a fact of each element of a list is one of each of its images
-  all-map : (f : A → B) (P : A → Type 0) (Q : B → Type 0) → ((x : A) → P x → Q (f x))
-      → (xs : List A) → All P xs → All Q (map f xs)
-  all-map f P Q step [] all k d low = absurd (let bad : ⊥ = omega (arith, low) in bad)
-  all-map f P Q step (x ∷ xs) all zero d low = step x (all zero x (omega arith))
-  all-map f P Q step (x ∷ xs) all (suc k) d low =
-      all-map f P Q step xs (λ i e more. all (suc i) e (omega (arith, more))) k d
-      (omega (arith, low))
-
   -- an element's image stands at its place
   at-map : (f : A → B) (xs : List A) (i : ℕ) (x : A) → get_elem? xs i ≡ some x
       → slice_get (map f xs) i ≡ Some (f x)
@@ -49,21 +43,8 @@ module _ {A B : Type 0} where
 module _ {B : Type 0} where
   -- a fact of each element is one of the element at a place
   all-at : (P : B → Type 0) (xs : List B) (i : ℕ) (x : B) → All P xs → slice_get xs i ≡ Some x → P x
-  all-at P [] i x all is = absurd cc
-  all-at P (y ∷ ys) zero x all is =
-      let same : y ≡ x = cc in subst P same (all zero y (omega arith))
-  all-at P (y ∷ ys) (suc i) x all is =
-      all-at P ys i x (λ k d low. all (suc k) d (omega (arith, low))) is
-
--- the clauses of the lock when it closes
-pub record KnownAt (before : ℕ) (log : List Carried) (seal : Option (Seal Full)) (v : View Entry Full)
-    : Type 0 where
-  pub seen : StartsWith log v.seen
-  pub known : IsWordIn before log v.known
-  pub read : StartsWith log v.read
-  pub joined : All (IsPartOf before log seal) (joined_of v.role)
-  pub named : NamesJoined seal (joined_of v.role)
-  pub unmade : (n : ℕ) → among n (made_of v.role) ≡ false → entries_by n log ≡ []
+  all-at P xs i x all is =
+      subst P (get_or_from_slice_get xs i x x is) (all i x (slice_get_within xs i x is))
 
 seal_is : (z : Seal Full) (n : ℕ) (f : Full) → z.by ≡ n → z.what ≡ f
     → z ≡ record { by = n; what = f }
@@ -75,7 +56,7 @@ stop_of seal = option_map (λ (z : Seal Full). z.what) seal
 
 module _ (start : WorldState) (most : Limits) (hub : TableId) (stands : List PassPlace)
     (v : View Entry Full) (s : SharedView) (sound : IsSound start most s)
-    (known_at : KnownAt (display_of start) (carried_entries start s.log.entries) s.stop v) where
+    (known_at : Closes (display_of start) (carried_entries start s.log.entries) s.stop v) where
   log : List Carried
   log = carried_entries start s.log.entries
 
@@ -108,8 +89,8 @@ module _ (start : WorldState) (most : Limits) (hub : TableId) (stands : List Pas
 
   parts : All (IsPart start s.log.entries (stop_of s.stop)) (map (joined_by hub) (joined_of v.role))
   unfolding log
-  parts = all-map (joined_by hub) (IsPartOf (display_of start) log s.stop)
-      (IsPart start s.log.entries (stop_of s.stop)) part (joined_of v.role) known_at.joined
+  parts = All-map (IsPart start s.log.entries (stop_of s.stop)) (joined_by hub) (joined_of v.role)
+      (λ k d low. part (get_or (joined_of v.role) k d) (known_at.joined k d low))
 
   stops : (full : Full) → stop_of s.stop ≡ Some full
       → IsStopped most s.world s.log.entries (map (joined_by hub) (joined_of v.role)) full

@@ -1,5 +1,5 @@
 -- The answers to a call of the hub, and the knowledge of its pass then. This project's own.
-use Rattle.std.specs.Prelude.{◌≡◌, ℕ, true, false, List, [], ◌∷◌, ◌++◌, length, Some, None}
+use Rattle.std.specs.Prelude.{◌≡◌, ℕ, true, false, List, [], ◌∷◌, ◌++◌, length, Option, Some, None}
 use Rattle.turn_lock.specs.declared.seal.Seal.{Seal}
 use Rattle.vt_events.specs.Charge.{charge_of}
 use Rattle.vt_events.specs.Plain.{plain_reply}
@@ -10,8 +10,6 @@ use Rattle.vt_hub.specs.Histories.{BeginsWith, IsRead, awaits, made_by}
 use Rattle.vt_hub.specs.Views.{PassView}
 use Rattle.vt_hub.specs.declared.answer.Answer.{Answer}
 use Rattle.vt_hub.specs.declared.answer.Answer.TheVariants as answer
-use Rattle.vt_hub.specs.declared.turn.Turn.{Turn}
-use Rattle.vt_hub.specs.declared.turn.Turn.TheVariants as turn
 use Rattle.vt_journal.specs.Room.{full_at, has_room}
 use Rattle.vt_journal.specs.declared.full.Full.{Full}
 use Rattle.vt_journal.specs.declared.limits.Limits.{Limits}
@@ -90,8 +88,7 @@ pub record Waited (start : WorldState) (v w : PassView) : Type 0 where
   pub goes_on : w.stop ≡ None
   pub waits : awaits v.mine ≡ true
 
--- the result of one look of the pass v with the call e
-abbrev pub Turns : WorldState → Limits → Event → PassView → PassView → Turn → Type 0
-Turns start most e v w (turn.Done place reply) = Called start most e v w place reply
-Turns start most e v w (turn.Full full) = Stopped start most e v w full
-Turns start most e v w turn.Waits = Waited start v w
+-- the result of one look of the pass v with the call e: no answer while its caller's ticket is open
+abbrev pub Turns : WorldState → Limits → Event → PassView → PassView → Option Answer → Type 0
+Turns start most e v w (Some a) = Answers start most e v w a
+Turns start most e v w None = Waited start v w

@@ -7,9 +7,9 @@ use Rattle.vt_events.specs.declared.entry.Entry.{Entry}
 use Rattle.vt_events.specs.declared.event.Event.{Event}
 use Rattle.vt_events.specs.declared.reply.Reply.{Reply}
 use Rattle.vt_hub.specs.Histories.{IsFree, awaits, made_by}
+use Rattle.vt_hub.specs.declared.answer.Answer.{Answer}
+use Rattle.vt_hub.specs.declared.answer.Answer.TheVariants as answer
 use Rattle.vt_hub.specs.declared.state.State.{State}
-use Rattle.vt_hub.specs.declared.turn.Turn.{Turn}
-use Rattle.vt_hub.specs.declared.turn.Turn.TheVariants as turn
 use Rattle.vt_journal.specs.Log.{Logged}
 use Rattle.vt_journal.specs.Room.{full_at, has_room}
 use Rattle.vt_journal.specs.declared.full.Full.{Full}
@@ -82,8 +82,8 @@ pub record Waits (p : ℕ) (v w : SharedView) : Type 0 where
   pub met : v.stop ≡ None
   pub waits : is_waiting v.world p ≡ true
 
--- the result of a look of caller p with the call e
-abbrev pub ComesTo : ℕ → ℕ → Event → SharedView → SharedView → Turn → Type 0
-ComesTo p seq e v w (turn.Done place reply) = Enters p seq e v w place reply
-ComesTo p seq e v w (turn.Full full) = Stops p e v w full
-ComesTo p seq e v w turn.Waits = Waits p v w
+-- the result of a look of caller p with the call e: no answer while its ticket is open
+abbrev pub ComesTo : ℕ → ℕ → Event → SharedView → SharedView → Option Answer → Type 0
+ComesTo p seq e v w (Some (answer.Done place reply)) = Enters p seq e v w place reply
+ComesTo p seq e v w (Some (answer.Full full)) = Stops p e v w full
+ComesTo p seq e v w None = Waits p v w

@@ -18,7 +18,6 @@ use crate::pass_place::PassPlace;
 use crate::run::Run;
 use crate::shared::Shared;
 use crate::steward::Steward;
-use crate::turn::Turn;
 use crate::wake_ups::WakeUps;
 use std::alloc::Global;
 use std::marker::Model;
@@ -144,10 +143,11 @@ impl<J: Opening> Hub<J> {
         requires free { p.old.stop ≡ None → awaits p.old.mine ≡ false }
         ensures { Answers J.start J.limits event p.old p.new result }
     {
-        match self.turn(rt, p, event, spare) {
-            Turn::Done { at, reply } => Answer::Done { at, reply },
-            Turn::Full(full) => Answer::Full(full),
-            Turn::Waits => unreachable!(),
+        let mut event = event;
+        let mut spare = spare;
+        match self.turn(rt, p, &mut event, &mut spare) {
+            Some(answer) => answer,
+            None => unreachable!(),
         }
     }
 
@@ -160,10 +160,12 @@ impl<J: Opening> Hub<J> {
         for _ in rt.forever() {
             // The wait is prepared before the look, so that a wake-up between the two ends it.
             let key = self.wake_ups.prepare_wait(p.number);
-            match self.turn(rt, p, Event::WaitEnd, Spare::none(self.alloc)) {
-                Turn::Done { at, reply } => return Answer::Done { at, reply },
-                Turn::Full(full) => return Answer::Full(full),
-                Turn::Waits => {
+            let mut event = Event::WaitEnd;
+            let mut none = Spare::none(self.alloc);
+            match self.turn(rt, p, &mut event, &mut none) {
+                Some(Answer::Done { at, reply }) => return Answer::Done { at, reply },
+                Some(Answer::Full(full)) => return Answer::Full(full),
+                None => {
                     if let Some(key) = key {
                         key.wait(rt);
                     }
@@ -174,36 +176,43 @@ impl<J: Opening> Hub<J> {
     }
 
     // One look of the caller, which enters the call unless its ticket is open, and wakes those whose
-    // tickets it ended.
-    fn turn<R: Wait>(&self, rt: &R, p: &mut Pass<J>, event: Event, spare: Spare) -> Turn
+    // tickets it ended. An entered call takes its event and its memory. They are lent, so that they are moved
+    // once.
+    fn turn<R: Wait>(
+        &self,
+        rt: &R,
+        p: &mut Pass<J>,
+        event: &mut Event,
+        spare: &mut Spare,
+    ) -> Option<Answer>
         requires own { p.old.hub ≡ self.now }
-        requires fits { Fits J.start.rows J.start.cols event spare }
-        ensures { Turns J.start J.limits event p.old p.new result }
+        requires fits { Fits J.start.rows J.start.cols event.old spare.old }
+        ensures { Turns J.start J.limits event.old p.old p.new result }
     {
         let number = p.number;
         let seq = p.seq;
         let mut held = self.lock.enter(rt, &mut p.place);
         let shared = held.value();
         shared.sound();
-        let answer = shared.call(number, seq, event, spare, &mut p.kept);
+        let answer = shared.call(self.alloc, number, seq, event, spare, &mut p.kept);
         shared.sound();
         let ended = shared.ended();
         match answer {
-            Turn::Done { at, reply } => {
+            Some(Answer::Done { at, reply }) => {
                 held.publish();
                 held.leave();
                 self.wake_ups.wake(ended);
                 p.seq = seq + 1;
-                Turn::Done { at, reply }
+                Some(Answer::Done { at, reply })
             }
-            Turn::Full(full) => {
+            Some(Answer::Full(full)) => {
                 held.leave();
                 self.wake_ups.wake_all();
-                Turn::Full(full)
+                Some(Answer::Full(full))
             }
-            Turn::Waits => {
+            None => {
                 held.leave();
-                Turn::Waits
+                None
             }
         }
     }

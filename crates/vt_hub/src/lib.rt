@@ -12,7 +12,6 @@ mod seat;
 mod shared;
 mod state;
 mod steward;
-mod turn;
 mod waiters;
 mod wake_ups;
 

@@ -1,4 +1,4 @@
-ghost use Rattle.std.specs.Prelude.{◌≡◌, ◌+◌, ◌*◌, ℕ, [], IfOk, None, false, length, option_map};
+ghost use Rattle.std.specs.Prelude.{◌≡◌, ◌+◌, ◌*◌, ℕ, [], IfOk, Some, None, false, length, option_map};
 ghost use Rattle.vt_events.specs.Charge.{charge_of};
 ghost use Rattle.vt_hub.specs.Histories.{made_by};
 ghost use Rattle.vt_hub.specs.Shared.{ComesTo, IsSound};
@@ -6,12 +6,13 @@ ghost use Rattle.vt_journal.specs.Log.{HasRoom};
 ghost use Rattle.vt_world.specs.Spare.{Fits};
 ghost use Rattle.vt_world.specs.State.{is_waiting};
 
+use crate::answer::Answer;
 use crate::opening::Opening;
 use crate::state::State;
-use crate::turn::Turn;
 use crate::waiters::Waiters;
 use std::alloc::Global;
 use std::marker::{Model, PhantomData};
+use std::mem;
 use turn_lock::Seal;
 use vt_base::{CallerNo, NoMemory};
 use vt_events::{Entry, Event, charge};
@@ -84,25 +85,26 @@ impl<J: Opening> Shared<J> {
     /// call doesn't use is kept.
     pub(crate) fn call(
         &mut self,
+        alloc: Global,
         caller: CallerNo,
         seq: u32,
-        event: Event,
-        spare: Spare,
+        event: &mut Event,
+        spare: &mut Spare,
         kept: &mut Option<Grid>,
-    ) -> Turn
-        requires fits { Fits J.start.rows J.start.cols event spare }
+    ) -> Option<Answer>
+        requires fits { Fits J.start.rows J.start.cols event.old spare.old }
         requires number { seq ≡ length (made_by caller self.old.log.entries) }
-        ensures { ComesTo caller seq event self.old self.new result }
+        ensures { ComesTo caller seq event.old self.old self.new result }
     {
         self.sound();
         let state = &*self.state;
         if let Some(stop) = &state.stop {
-            return Turn::Full(stop.what);
+            return Some(Answer::Full(stop.what));
         }
         if state.world.waiting(caller) {
-            return Turn::Waits;
+            return None;
         }
-        let charge = charge(&event);
+        let charge = charge(event);
         if !state.log.room(charge) {
             let full = Full {
                 events: state.log.entries().len() as u32,
@@ -113,9 +115,10 @@ impl<J: Opening> Shared<J> {
                 by: u32::from(caller.get()),
                 what: full,
             });
-            return Turn::Full(full);
+            return Some(Answer::Full(full));
         }
-        self.enter(caller, seq, event, charge, spare, kept)
+        let spare = mem::replace(spare, Spare::none(alloc));
+        Some(self.enter(caller, seq, event, charge, spare, kept))
     }
 
     // Enters the call, which has that charge.
@@ -123,18 +126,18 @@ impl<J: Opening> Shared<J> {
         &mut self,
         caller: CallerNo,
         seq: u32,
-        event: Event,
+        event: &mut Event,
         charge: u32,
         spare: Spare,
         kept: &mut Option<Grid>,
-    ) -> Turn
-        requires fits { Fits J.start.rows J.start.cols event spare }
+    ) -> Answer
+        requires fits { Fits self.old.world.rows self.old.world.cols event.old spare }
         requires number { seq ≡ length (made_by caller self.old.log.entries) }
         requires open { self.old.stop ≡ None }
         requires free { is_waiting self.old.world caller ≡ false }
-        requires charge { charge ≡ charge_of event }
+        requires charge { charge ≡ charge_of event.old }
         requires room { HasRoom self.old.log charge }
-        ensures { ComesTo caller seq event self.old self.new result }
+        ensures { ComesTo caller seq event.old self.old self.new (Some result) }
     {
         legal_grows();
         sizes_stay();
@@ -142,7 +145,7 @@ impl<J: Opening> Shared<J> {
         self.sound();
         let state = &mut *self.state;
         let at = state.log.entries().len() as u32;
-        let (reply, unused, grid) = state.world.step_with_rest(caller, &event, spare);
+        let (reply, unused, grid) = state.world.step_with_rest(caller, event, spare);
         keep(kept, grid);
         let _front = state.world.display().get();
         let waits = state.waits.after(&state.world, caller);
@@ -151,11 +154,11 @@ impl<J: Opening> Shared<J> {
         let entry = Entry {
             caller,
             seq,
-            event,
+            event: mem::replace(event, Event::WaitEnd),
             reply: reply.copy_into(unused),
         };
         state.log.push_counted(entry, charge);
-        Turn::Done { at, reply }
+        Answer::Done { at, reply }
     }
 
     /// The callers whose tickets the last call ended.

@@ -6,12 +6,12 @@ use Rattle.cooked.specs.Kinds.{ends_line}
 
 pub returns-in-Interrupt-clause-fresh : goal.returns-in-Interrupt-clause-fresh
 returns-in-Interrupt-clause-fresh c =
-    ap (λ (v : Typing). v.fresh) c.signal.ensures.state
+    ap (λ (v : Typing). v.fresh) c.restart.ensures
     ∙ sym (pushed_ended _ _ _ _ c.args.b _ _ c.self.view_is c.heard-heard.ensures c.kind_of-kind.ensures (ap ends_line c.in-Interrupt.is))
 
 pub returns-in-Quit-clause-fresh : goal.returns-in-Quit-clause-fresh
 returns-in-Quit-clause-fresh c =
-    ap (λ (v : Typing). v.fresh) c.signal-in-Quit.ensures.state
+    ap (λ (v : Typing). v.fresh) c.restart-in-Quit.ensures
     ∙ sym (pushed_ended _ _ _ _ c.args.b _ _ c.self.view_is c.heard-heard.ensures c.kind_of-kind.ensures (ap ends_line c.in-Quit.is))
 
 pub returns-in-Kill-clause-fresh : goal.returns-in-Kill-clause-fresh

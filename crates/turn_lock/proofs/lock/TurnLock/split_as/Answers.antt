@@ -14,5 +14,5 @@ split_seat-place-requires g c =
       search rules,
       search rules,
       splits_ok g.K.Kept.before g.K.Kept.entries g.K.Kept.seal g.K.Kept.right _ v _
-          c.requires.first c.requires.own.1.1 small fresh,
+          c.requires.own.1 c.requires.own.0.1.1 small fresh,
     )

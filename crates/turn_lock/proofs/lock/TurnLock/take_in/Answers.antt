@@ -8,6 +8,6 @@ join_seat-requires g c = (
   search rules,
   search rules,
   search rules,
-  joins_ok g.K.Kept.before g.K.Kept.entries g.K.Kept.seal g.K.Kept.right _ _ _ _ c.requires.first c.requires.own.1.1
+  joins_ok g.K.Kept.before g.K.Kept.entries g.K.Kept.seal g.K.Kept.right _ _ _ _ c.requires.own.1 c.requires.own.0.1.1
       c.requires.numbered c.requires.other.1.1,
 )

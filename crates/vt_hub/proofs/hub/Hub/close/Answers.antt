@@ -5,9 +5,8 @@ use Rattle.atomic_table.specs.Seated.{TableId}
 use Rattle.vt_events.specs.declared.entry.Entry.{Entry}
 use Rattle.vt_hub.specs.Closed.{IsWhole}
 use Rattle.vt_hub.specs.Shared.{SharedView}
-use Rattle.vt_hub.specs.Carrying.{display_of, carried_entries}
 use Rattle.vt_hub.specs.Views.{StewardView}
-use Rattle.vt_hub.proofs.Whole.{KnownAt, whole}
+use Rattle.vt_hub.proofs.Whole.{whole}
 use Rattle.vt_journal.specs.Log.{Logged}
 use Rattle.vt_journal.specs.Room.{IsWithin}
 use Rattle.vt_journal.specs.declared.full.Full.{Full}
@@ -22,14 +21,6 @@ returns g c =
     let v : View Entry Full = view c.s.inside.place in
     let s : SharedView = c.close-shared.result in
     let l : Logged = c.parts-world.result.1 in
-    let known_at : KnownAt (display_of start) (carried_entries start s.log.entries) s.stop v = record {
-      seen = c.close-shared.ensures.seen;
-      known = c.close-shared.ensures.known;
-      read = c.close-shared.ensures.read;
-      joined = c.close-shared.ensures.joined;
-      named = c.close-shared.ensures.named;
-      unmade = c.close-shared.ensures.unmade;
-    } in
     let own : IsWithin l.limits l.entries = record {
       events = subst (λ (es : List Entry). length es ≤ l.limits.events)
           c.entries-entries.ensures.same c.entries-entries.ensures.within;
@@ -41,6 +32,6 @@ returns g c =
     (subst (λ (t : Logged). IsWithin t.limits t.entries) c.parts-world.ensures.log own) in
     subst (λ (k : StewardView). IsWhole start most k c.parts-world.result.0 l c.parts-world.result.2)
     c.s.view_is
-    (whole start most hub c.s.inside.stands v s c.sound.ensures known_at c.parts-world.result.0 l
+    (whole start most hub c.s.inside.stands v s c.sound.ensures c.close-shared.ensures c.parts-world.result.0 l
     c.parts-world.result.2 c.parts-world.ensures.world c.parts-world.ensures.log
     c.parts-world.ensures.stop within c.s.invariant.made c.screens_are_tapes.ensures.screens)

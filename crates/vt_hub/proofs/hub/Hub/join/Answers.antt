@@ -18,7 +18,7 @@ returns-clause-other_seen g c =
 
 pub returns-clause-known : goal.returns-clause-known
 returns-clause-known g c =
-    ap (λ v. v.known) c.join.ensures.view
+    ap (λ v. v.known) c.join.ensures.own.1
     ∙ (ap (λ (s : StewardView). max s.known (view c.p.inside.place).known) c.s.view_is
     ∙ ap (λ (v : PassView). max c.args.s.now.known v.known) c.p.view_is)
 

@@ -11,7 +11,7 @@ use Rattle.vt_hub.proofs.shared.Shared.call.Goals as goal
 
 pub returns-in-Some : goal.returns-in-Some
 returns-in-Some g c =
-    met_before c.args.caller c.args.event c.args.self.now c.in-Some.stop
+    met_before c.args.caller c.args.event.now c.args.self.now c.in-Some.stop
     (sym (ap (λ (x : SharedView). x.stop) c.self.view_is)
     ∙ (ap (λ (s : State). s.stop) (sym c.deref-state.ensures) ∙ c.in-Some.is))
 

@@ -21,15 +21,15 @@ invariant_of-self g c =
     let entry : Entry = record {
       caller = c.args.caller;
       seq = c.args.seq;
-      event = c.args.event;
+      event = c.replace.result;
       reply = c.copy_into.result;
     } in
-    let of : IsEntryOf c.args.caller c.args.seq c.args.event c.step_with_rest-reply.result.0 entry =
-    record { caller = refl; number = refl; event = refl; reply = c.copy_into.ensures } in
-    let stepped : HasOutcome (step v.world c.args.caller c.args.event) w.world c.step_with_rest-reply.result.0 =
-    subst (λ (x : WorldState). HasOutcome (step x c.args.caller c.args.event) w.world c.step_with_rest-reply.result.0)
+    let of : IsEntryOf c.args.caller c.args.seq c.args.event.now c.step_with_rest-reply.result.0 entry =
+    record { caller = refl; number = refl; event = c.replace.ensures.value; reply = c.copy_into.ensures } in
+    let stepped : HasOutcome (step v.world c.args.caller c.args.event.now) w.world c.step_with_rest-reply.result.0 =
+    subst (λ (x : WorldState). HasOutcome (step x c.args.caller c.args.event.now) w.world c.step_with_rest-reply.result.0)
     (ap (λ (s : State). s.world) given) c.step_with_rest-reply.ensures.step in
-    enters g.J.Opening.start g.J.Opening.limits v w c.args.caller c.args.seq c.args.event
+    enters g.J.Opening.start g.J.Opening.limits v w c.args.caller c.args.seq c.args.event.now
     c.step_with_rest-reply.result.0 entry of stepped c.self.invariant c.legal_grows.ensures.more
     c.legal_grows.ensures.replay c.sizes_stay.ensures c.tickets_are_called.ensures
     (ap (λ (x : SharedView). is_waiting x.world c.args.caller) c.self.view_is ∙ c.requires.free)
