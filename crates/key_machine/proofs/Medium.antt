@@ -70,7 +70,6 @@ event_same c d a b xs ys kc kd e = ⊎_elim
     let f : up_bit a ∷ (128 + c / 128) ∷ (128 + c % 128) ∷ xs ≡ up_bit b ∷ (128 + d / 128) ∷ (128 + d % 128) ∷ ys = ap (λ bs. bs ++ xs) (sym (long c a hc)) ∙ e ∙ ap (λ bs. bs ++ ys) (long d b hd) in
     let g = rest_same _ _ _ _ f in
     let h = rest_same _ _ _ _ g in
-    
     let low : 128 + c % 128 ≡ 128 + d % 128 = first_same _ _ _ _ h in
     (omega arith, bit_same a b (first_same _ _ _ _ f), rest_same _ _ _ _ h))
     (cases_lt d 128))
