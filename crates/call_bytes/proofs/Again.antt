@@ -5,6 +5,7 @@ use Rattle.std.specs.Int.{to_le_bytes, w16}
 use Rattle.std.specs.List.{list_all, range_with_len}
 use Rattle.std.proofs.lemmas.List.{take_all}
 use Rattle.std.proofs.lemmas.List.Elements.{All-get_or}
+use Rattle.std.proofs.lemmas.Bool.{and_from}
 use Rattle.call_bytes.proofs.Blocks.{byte_of_piece, length_of_pieces, read_again}
 use Rattle.call_bytes.proofs.Tables.{colours_read, pairs_read, words_read}
 use Rattle.call_bytes.specs.Colours.{colour_at, colour_bytes, colours_text}
@@ -33,9 +34,6 @@ high_zero b n e h = eq-eqb b 0 (omega arith)
 higher_zero : (b n : ℕ) → b ≡ n / 16777216 % 256 → n < 65536 → (b == 0) ≡ true
 higher_zero b n e h = eq-eqb b 0 (omega arith)
 
-both : (t u : Bool) → t ≡ true → u ≡ true → (t && u) ≡ true
-both t u p q = ap (λ b. b && u) p ∙ q
-
 pair_same : (p q : Pair) → p.accent ≡ q.accent → p.base ≡ q.base → p.result ≡ q.result → p ≡ q
 pair_same p q a b r = λ i. record { accent = a i; base = b i; result = r i }
 
@@ -60,15 +58,15 @@ pair_again pairs i e h is =
 
 number_fits : (text : List ℕ) (at n : ℕ) → byte_at text (at + 2) ≡ n / 65536 % 256 → byte_at text (at + 3) ≡ n / 16777216 % 256 → n < 65536 → is_number_at text at ≡ true
 number_fits text at n p q h =
-    both (byte_at text (at + 2) == 0) (byte_at text (at + 3) == 0) (high_zero (byte_at text (at + 2)) n p h)
+    and_from (byte_at text (at + 2) == 0) (byte_at text (at + 3) == 0) (high_zero (byte_at text (at + 2)) n p h)
     (higher_zero (byte_at text (at + 3)) n q h)
 
 pair_fits : (pairs : List Pair) (i : ℕ) (e : Pair) → i < length pairs → IsPair (get_or pairs i e) → is_pair_at (pairs_text pairs) i ≡ true
 pair_fits pairs i e h is =
     let pair : Pair = get_or pairs i e in
     let text = pairs_text pairs in
-    both (is_number_at text (12 * i) && is_number_at text (12 * i + 4)) (is_number_at text (12 * i + 8))
-    (both (is_number_at text (12 * i)) (is_number_at text (12 * i + 4))
+    and_from (is_number_at text (12 * i) && is_number_at text (12 * i + 4)) (is_number_at text (12 * i + 8))
+    (and_from (is_number_at text (12 * i)) (is_number_at text (12 * i + 4))
     (number_fits text (12 * i) pair.accent (pair_byte pairs i e h 2 (12 * i + 2) (omega arith) (omega arith))
     (pair_byte pairs i e h 3 (12 * i + 3) (omega arith) (omega arith)) is.accent)
     (number_fits text (12 * i + 4) pair.base (pair_byte pairs i e h 6 (12 * i + 4 + 2) (omega arith) (omega arith))

@@ -19,7 +19,7 @@ byte_of_piece f each same xs i j at e h l is =
     ap (λ n. get_or (flat_map f xs) n 0) (is ∙ ap (λ n. n + j) (sym before))
     ∙ get_or-flat_map f xs i j e 0 h m
 
-cons_same : {X : Type 0} (x y : X) (xs ys : List X) → x ≡ y → xs ≡ ys → x ∷ xs ≡ y ∷ ys
+pub cons_same : {X : Type 0} (x y : X) (xs ys : List X) → x ≡ y → xs ≡ ys → x ∷ xs ≡ y ∷ ys
 cons_same x y xs ys e f = cc
 
 -- items that are read at their places

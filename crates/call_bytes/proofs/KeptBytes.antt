@@ -1,12 +1,14 @@
 -- The bytes that are written from a table equal the bytes that it was read from.
+use Rattle.call_bytes.proofs.Blocks.{cons_same}
 use Rattle.std.proofs.Common.{◌≡◌, ℕ, zero, suc, ◌+◌, ◌*◌, ◌/◌, ◌%◌, ◌<◌, ◌≤◌, Bool, true, false, ◌==◌, ◌&&◌, cond, nat_le, Some, None, List, [], ◌∷◌, ◌++◌, length, take, drop, drop-cons, refl, sym, ap, ◌∙◌, inl, inr, arith}
 use Rattle.std.specs.Prelude.{map}
 use Rattle.std.specs.Int.{to_le_bytes, w16, w32}
 use Rattle.std.specs.List.{flat_map, list_all, range_with_len}
-use Rattle.std.proofs.lemmas.Bool.{false≢true}
+use Rattle.std.proofs.lemmas.Bool.{and_parts, eqb-true, false≢true}
 use Rattle.std.proofs.lemmas.Bool.Decides.{eqb_tells}
 use Rattle.std.proofs.lemmas.List.{drop-drop, drop_all, take-append-drop}
 use Rattle.std.proofs.lemmas.List.Elements.{All-get_or}
+use Rattle.std.proofs.lemmas.Option.{cond_some}
 use Rattle.call_bytes.specs.Colours.{colour_at, colour_bytes, colours_text}
 use Rattle.call_bytes.specs.Kept.{AreBytes, ColoursAreKept, PairsAreKept, WordsAreKept}
 use Rattle.call_bytes.specs.Numbers.{byte_at, is_number_at, number_at}
@@ -55,10 +57,6 @@ four_first bytes k n h =
 small : (bytes : List ℕ) (k : ℕ) → AreBytes bytes → k < length bytes → byte_at bytes k < 256
 small bytes k are h = All-get_or (λ b. b < 256) bytes k 0 h are
 
--- numbers of two and of four bytes
-cons_same : (x y : ℕ) (xs ys : List ℕ) → x ≡ y → xs ≡ ys → x ∷ xs ≡ y ∷ ys
-cons_same x y xs ys e f = cc
-
 low_byte : (a b : ℕ) → a < 256 → (a + 256 * b) % 256 ≡ a
 low_byte a b h = omega arith
 
@@ -84,36 +82,17 @@ four_written a b c d h k z w =
     (cons_same (n / 65536 % 256) c ((n / 16777216 % 256) ∷ []) (d ∷ []) (third_byte a b h k ∙ sym z)
     (ap (λ x. x ∷ []) (fourth_byte a b h k ∙ sym w))))
 
--- what a table was, where one was read
-was : {X : Type 0} (t : Bool) (xs ys : List X) → cond t (Some xs) None ≡ Some ys → (t ≡ true) × (xs ≡ ys)
-was true xs ys e = (refl, (let s : Some xs ≡ Some ys = e in cc))
-was false xs ys e = absurd (let s : None ≡ Some ys = e in cc)
-
-is_number : (n m : ℕ) → (n == m) ≡ true → n ≡ m
-is_number n m h = elim (eqb_tells n m) [
-  | inl e ↦ e.1
-  | inr e ↦ absurd (false≢true (sym e.0 ∙ h))
-]
-
-and_left : (a b : Bool) → (a && b) ≡ true → a ≡ true
-and_left true b h = refl
-and_left false b h = absurd (false≢true h)
-
-and_right : (a b : Bool) → (a && b) ≡ true → b ≡ true
-and_right true b h = h
-and_right false b h = absurd (false≢true h)
-
 each_holds : (p : ℕ → Bool) (n from : ℕ) → list_all p (range_with_len from n) ≡ true → (i : ℕ) → i < n → p (from + i) ≡ true
 each_holds p zero from all i h = absurd (omega (arith, h))
-each_holds p (suc n) from all zero h = ap p (let e : from + 0 ≡ from = omega arith in e) ∙ and_left (p from) (list_all p (range_with_len (from + 1) n)) all
+each_holds p (suc n) from all zero h = ap p (let e : from + 0 ≡ from = omega arith in e) ∙ (and_parts (p from) (list_all p (range_with_len (from + 1) n)) all).0
 each_holds p (suc n) from all (suc i) h =
     ap p (let e : from + suc i ≡ from + 1 + i = omega arith in e)
-    ∙ each_holds p n (from + 1) (and_right (p from) (list_all p (range_with_len (from + 1) n)) all) i (omega (arith, h))
+    ∙ each_holds p n (from + 1) ((and_parts (p from) (list_all p (range_with_len (from + 1) n)) all).1) i (omega (arith, h))
 
 pub words_kept : WordsAreKept
 words_kept bytes words are read =
-    let w = was (length bytes == 512) (map (word_at bytes) (range_with_len 0 (length bytes / 2))) words read in
-    let long : length bytes ≡ 512 = is_number (length bytes) 512 w.0 in
+    let w = cond_some (length bytes == 512) (map (word_at bytes) (range_with_len 0 (length bytes / 2))) words read in
+    let long : length bytes ≡ 512 = eqb-true (length bytes) 512 w.0 in
     let half : length bytes / 2 ≡ 256 = omega (arith, long) in
     ap words_text (sym w.1)
     ∙ ap (λ n. words_text (map (word_at bytes) (range_with_len 0 n))) half
@@ -124,8 +103,8 @@ words_kept bytes words are read =
 
 pub colours_kept : ColoursAreKept
 colours_kept bytes colours are read =
-    let w = was (length bytes == 48) (map (colour_at bytes) (range_with_len 0 (length bytes / 3))) colours read in
-    let long : length bytes ≡ 48 = is_number (length bytes) 48 w.0 in
+    let w = cond_some (length bytes == 48) (map (colour_at bytes) (range_with_len 0 (length bytes / 3))) colours read in
+    let long : length bytes ≡ 48 = eqb-true (length bytes) 48 w.0 in
     let third : length bytes / 3 ≡ 16 = omega (arith, long) in
     ap colours_text (sym w.1)
     ∙ ap (λ n. colours_text (map (colour_at bytes) (range_with_len 0 n))) third
@@ -135,18 +114,18 @@ colours_kept bytes colours are read =
 -- one number of a pair
 number_kept : (bytes : List ℕ) (k n : ℕ) → AreBytes bytes → k + 4 ≤ length bytes → is_number_at bytes k ≡ true → take (4 + n) (drop k bytes) ≡ to_le_bytes w32 (number_at bytes k) ++ take n (drop (k + 4) bytes)
 number_kept bytes k n are h is =
-    let third = is_number (byte_at bytes (k + 2)) 0 (and_left (byte_at bytes (k + 2) == 0) (byte_at bytes (k + 3) == 0) is) in
-    let fourth = is_number (byte_at bytes (k + 3)) 0 (and_right (byte_at bytes (k + 2) == 0) (byte_at bytes (k + 3) == 0) is) in
+    let third = eqb-true (byte_at bytes (k + 2)) 0 ((and_parts (byte_at bytes (k + 2) == 0) (byte_at bytes (k + 3) == 0) is).0) in
+    let fourth = eqb-true (byte_at bytes (k + 3)) 0 ((and_parts (byte_at bytes (k + 2) == 0) (byte_at bytes (k + 3) == 0) is).1) in
     four_first bytes k n h
     ∙ ap (λ front. front ++ take n (drop (k + 4) bytes))
     (sym (four_written (byte_at bytes k) (byte_at bytes (k + 1)) (byte_at bytes (k + 2)) (byte_at bytes (k + 3)) (small bytes k are (omega arith)) (small bytes (k + 1) are (omega arith)) third fourth))
 
 pair_kept : (bytes : List ℕ) (i : ℕ) → AreBytes bytes → 12 * i + 12 ≤ length bytes → is_pair_at bytes i ≡ true → pair_bytes (pair_at bytes i) ≡ take 12 (drop (12 * i) bytes)
 pair_kept bytes i are h is =
-    let first-two = and_left (is_number_at bytes (12 * i) && is_number_at bytes (12 * i + 4)) (is_number_at bytes (12 * i + 8)) is in
-    let first = and_left (is_number_at bytes (12 * i)) (is_number_at bytes (12 * i + 4)) first-two in
-    let second = and_right (is_number_at bytes (12 * i)) (is_number_at bytes (12 * i + 4)) first-two in
-    let third = and_right (is_number_at bytes (12 * i) && is_number_at bytes (12 * i + 4)) (is_number_at bytes (12 * i + 8)) is in
+    let first-two = (and_parts (is_number_at bytes (12 * i) && is_number_at bytes (12 * i + 4)) (is_number_at bytes (12 * i + 8)) is).0 in
+    let first = (and_parts (is_number_at bytes (12 * i)) (is_number_at bytes (12 * i + 4)) first-two).0 in
+    let second = (and_parts (is_number_at bytes (12 * i)) (is_number_at bytes (12 * i + 4)) first-two).1 in
+    let third = (and_parts (is_number_at bytes (12 * i) && is_number_at bytes (12 * i + 4)) (is_number_at bytes (12 * i + 8)) is).1 in
     let a = to_le_bytes w32 (number_at bytes (12 * i)) in
     let b = to_le_bytes w32 (number_at bytes (12 * i + 4)) in
     sym (number_kept bytes (12 * i) 8 are (omega arith) first
@@ -159,10 +138,10 @@ pair_kept bytes i are h is =
 pub pairs_kept : PairsAreKept
 pairs_kept bytes pairs are read =
     let n = length bytes / 12 in
-    let w = was (are_pairs bytes) (map (pair_at bytes) (range_with_len 0 n)) pairs read in
+    let w = cond_some (are_pairs bytes) (map (pair_at bytes) (range_with_len 0 n)) pairs read in
     let front = nat_le (length bytes) 3072 && length bytes % 12 == 0 in
-    let fits : length bytes % 12 ≡ 0 = is_number (length bytes % 12) 0 (and_right (nat_le (length bytes) 3072) (length bytes % 12 == 0) (and_left front (list_all (is_pair_at bytes) (range_with_len 0 n)) w.0)) in
-    let each = each_holds (is_pair_at bytes) n 0 (and_right front (list_all (is_pair_at bytes) (range_with_len 0 n)) w.0) in
+    let fits : length bytes % 12 ≡ 0 = eqb-true (length bytes % 12) 0 ((and_parts (nat_le (length bytes) 3072) (length bytes % 12 == 0) ((and_parts front (list_all (is_pair_at bytes) (range_with_len 0 n)) w.0).0)).1) in
+    let each = each_holds (is_pair_at bytes) n 0 ((and_parts front (list_all (is_pair_at bytes) (range_with_len 0 n)) w.0).1) in
     let long : length bytes ≡ 12 * (0 + n) = omega (arith, fits) in
     ap pairs_text (sym w.1)
     ∙ pieces_kept pair_bytes (pair_at bytes) 12 bytes n 0 long

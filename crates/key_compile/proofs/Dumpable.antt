@@ -1,6 +1,6 @@
 -- The tables of lines have a table, and pairs of characters.
-use Rattle.std.proofs.Common.{◌≡◌, ℕ, suc, zero, ◌<◌, Bool, true, false, ◌==◌, ◌&&◌, ◌||◌, cond, None, is_some, IsTrue, All, List, [], ◌∷◌, ◌++◌, length, get_or, refl, sym, ap, ◌∙◌, subst, arith}
-use Rattle.std.proofs.lemmas.Bool.{and_from, and_parts, eqb-true, false≢true, or_left}
+use Rattle.std.proofs.Common.{◌≡◌, ℕ, suc, zero, ◌<◌, Bool, true, false, ◌==◌, ◌&&◌, ◌||◌, cond, None, is_some, IsTrue, All, List, [], ◌∷◌, ◌++◌, length, get_or, refl, sym, ap, ◌∙◌, subst, arith, rules}
+use Rattle.std.proofs.lemmas.Bool.{and_from, and_parts, eqb-true, false≢true, or_left, or_right}
 use Rattle.std.proofs.lemmas.List.Elements.{All-head, All-tail}
 use Rattle.std.proofs.lemmas.List.Folds.{list_all-append, list_any_at}
 use Rattle.std.specs.List.{flat_map, list_all, list_any}
@@ -23,9 +23,7 @@ some_at (false ∷ tables) e = let rest = some_at tables e in (suc rest.0, omega
 
 named_by : (telling : Telling) → is_keymaps telling ≡ true → IsTrue (is_fit telling) → SomeTable (λ t. names_table t telling)
 named_by (keymaps tables) e fit =
-    let parts = and_parts (length tables == 256) (list_any (λ has. has) tables) fit in
-    let found = some_at tables parts.1 in
-    (found.0, subst (λ (n : ℕ). found.0 < n) (eqb-true (length tables) 256 parts.0) found.1, found.2)
+    grind (arith, and_parts, some_at, eqb-true)
 named_by (keys code actions) e fit = absurd (false≢true e)
 named_by (one table code action) e fit = absurd (false≢true e)
 named_by (string func bytes) e fit = absurd (false≢true e)
@@ -38,17 +36,13 @@ named_in : (lines : List KeymapLine) → AreFit lines → list_any (λ l. is_key
 named_in [] fit e = absurd (false≢true e)
 named_in (l ∷ ls) fit e = by_first (named_in ls (All-tail (λ l. IsTrue (is_fit l.telling)) l ls fit)) (is_keymaps l.telling) refl
   where
-    or_true : (b : Bool) → (b || true) ≡ true
-    or_true true = refl
-    or_true false = refl
-
     by_first : (list_any (λ l. is_keymaps l.telling) ls ≡ true → SomeTable (λ t. list_any (λ l. names_table t l.telling) ls)) → (b : Bool) → is_keymaps l.telling ≡ b → SomeTable (λ t. list_any (λ l. names_table t l.telling) (l ∷ ls))
     by_first rest true first =
         let found = named_by l.telling first (All-head (λ l. IsTrue (is_fit l.telling)) l ls fit) in
         (found.0, found.1, or_left (names_table found.0 l.telling) (list_any (λ l. names_table found.0 l.telling) ls) found.2)
     by_first rest false other =
         let found = rest (sym (ap (λ b. b || list_any (λ l. is_keymaps l.telling) ls) other) ∙ e) in
-        (found.0, found.1, ap (λ b. names_table found.0 l.telling || b) found.2 ∙ or_true (names_table found.0 l.telling))
+        (found.0, found.1, or_right (names_table found.0 l.telling) (list_any (λ l. names_table found.0 l.telling) ls) found.2)
 
 union_some : (lines : List KeymapLine) → AreFit lines → SomeTable (in_union lines)
 unfolding in_union
@@ -61,13 +55,11 @@ union_some lines fit = by_test (named_in lines fit) (list_any (λ l. is_keymaps 
 declared_some : (lines : List KeymapLine) → AreFit lines → SomeTable (is_declared lines)
 unfolding is_declared
 declared_some lines fit =
-    let found = union_some lines fit in
-    (found.0, found.1, or_left (in_union lines found.0) (list_any (λ l. modifies_table found.0 l.telling) lines) found.2)
+    search (rules, union_some, or_left)
 
 has_table : (lines : List KeymapLine) (tables : Tables) → AreFit lines → AreTablesOf lines tables → list_any is_some tables.maps ≡ true
 has_table lines tables fit are =
-    let found = declared_some lines fit in
-    list_any_at is_some tables.maps found.0 None (let e = are.whole.tall in omega (arith, found.1, e)) (are.exist found.0 found.1 ∙ found.2)
+    grind (arith, declared_some, list_any_at, is_some)
 
 usual_real : list_all is_real usual ≡ true
 unfolding usual
@@ -93,5 +85,4 @@ all_real (l ∷ ls) fit =
 
 pub compiled_are_dumpable : CompiledAreDumpable
 compiled_are_dumpable lines tables fit are =
-    and_from (list_any is_some tables.maps) (list_all is_real tables.pairs) (has_table lines tables fit are)
-    (ap (list_all is_real) are.pairs ∙ all_real lines fit)
+    grind (arith, and_from, is_some, has_table, all_real)

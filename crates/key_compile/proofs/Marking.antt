@@ -1,6 +1,6 @@
 -- Tables that are marked line by line and table by table.
 use Rattle.std.proofs.Common.{◌≡◌, ℕ, suc, zero, ◌+◌, ◌<◌, ◌≤◌, Bool, true, false, ◌||◌, cond, List, [], ◌∷◌, ◌++◌, length, get_or, take, replicate, append-nil, refl, sym, ap, ◌∙◌, arith}
-use Rattle.std.proofs.lemmas.List.{get_or-replicate, length-replicate, take_more}
+use Rattle.std.proofs.lemmas.List.{get_or-replicate, length-replicate}
 use Rattle.std.specs.List.{list_any, slice_index_or}
 use Rattle.key_text.specs.KeymapLine.{Telling, KeymapLine}
 use Rattle.key_compile.specs.Union.{IsSetOf, in_union, passing_below, union_of}
@@ -15,21 +15,6 @@ pub record AddedBelow (test : ℕ → Bool) (old new : List Bool) (t : ℕ) : Ty
 pub record SetBelow (marks : List Bool) (test : ℕ → Bool) (t : ℕ) : Type 0 where
   pub full : length marks ≡ t
   pub each : (k : ℕ) → k < t → slice_index_or marks k false ≡ test k
-
-or_false : (b : Bool) → (b || false) ≡ b
-or_false true = refl
-or_false false = refl
-
-or_assoc : (a b c : Bool) → (a || (b || c)) ≡ ((a || b) || c)
-or_assoc true b c = refl
-or_assoc false b c = refl
-
-pub any_more : {X : Type 0} (test : X → Bool) (xs : List X) (i : ℕ) (d : X) → i < length xs → list_any test (take (i + 1) xs) ≡ (list_any test (take i xs) || test (get_or xs i d))
-any_more {X = X} test xs i d h = ap (list_any test) (take_more xs i d h) ∙ any_pushed (take i xs) (get_or xs i d)
-  where
-    any_pushed : (ys : List X) (y : X) → list_any test (ys ++ y ∷ []) ≡ (list_any test ys || test y)
-    any_pushed [] y = or_false (test y)
-    any_pushed (z ∷ ys) y = ap (λ b. test z || b) (any_pushed ys y) ∙ or_assoc (test z) (list_any test ys) (test y)
 
 -- the marks of a union, and of what the first lines name
 pub marked_none : (names : ℕ → Telling → Bool) (lines : List KeymapLine) (marks : List Bool) → marks ≡ replicate 256 false → IsSetOf marks (λ t. false || list_any (λ l. names t l.telling) (take 0 lines))

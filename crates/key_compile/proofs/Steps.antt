@@ -1,9 +1,9 @@
 -- Entries that are set one by one.
-use Rattle.std.proofs.Common.{◌≡◌, ℕ, ◌+◌, ◌<◌, Bool, true, false, ◌==◌, ◌&&◌, ◌||◌, cond, Option, Some, None, is_some, IsSome, unwrap_or, List, [], ◌∷◌, ◌++◌, length, get_or, take, refl, sym, ap, ◌∙◌, subst, inl, inr, arith}
+use Rattle.std.proofs.Common.{◌≡◌, ℕ, ◌+◌, ◌<◌, Bool, true, false, ◌==◌, ◌&&◌, ◌||◌, cond, Option, Some, None, is_some, IsSome, unwrap_or, List, [], ◌∷◌, ◌++◌, length, get_or, take, refl, sym, ap, ◌∙◌, subst, inl, inr, arith, rules}
 use Rattle.std.proofs.lemmas.Bool.{eq-eqb, false≢true}
 use Rattle.std.proofs.lemmas.Bool.Decides.{eqb_tells}
 use Rattle.std.proofs.lemmas.List.{length-take, take_more}
-use Rattle.std.proofs.lemmas.List.Folds.{list_any_at}
+use Rattle.std.proofs.lemmas.List.Folds.{list_any_at, list_any_more}
 use Rattle.std.specs.List.{list_any}
 use Rattle.std.specs.Option.{option_map, option_or}
 use Rattle.key_syms.specs.Act.{Act}
@@ -13,10 +13,9 @@ use Rattle.key_compile.specs.Entries.{by_symbols, last_action, everywhere, gives
 use Rattle.key_compile.specs.Existing.{HasOwnTable, HasTables}
 use Rattle.key_compile.specs.Fill.{filled_action}
 use Rattle.key_compile.specs.Puts.{Puts}
-use Rattle.key_compile.proofs.Marking.{any_more}
 
 -- what no line gives stays
-kept : (e : Option Act) → e ≡ option_map (λ a. unwrap_or None a) e
+pub kept : (e : Option Act) → e ≡ option_map (λ a. unwrap_or None a) e
 kept None = refl
 kept (Some a) = refl
 
@@ -24,11 +23,7 @@ pub puts_nothing : (k : Tables) → Puts (λ t c. None) k k
 puts_nothing k = record { entries = λ t c. kept (entry_of k t c); funcs = refl; pairs = refl }
 
 pub puts_same : (f g : ℕ → ℕ → Option Act) (old new : Tables) → ((t c : ℕ) → f t c ≡ g t c) → Puts f old new → Puts g old new
-puts_same f g old new same puts = record {
-  entries = λ t c. puts.entries t c ∙ ap (λ given. option_map (λ a. unwrap_or given a) (entry_of old t c)) (same t c);
-  funcs = puts.funcs;
-  pairs = puts.pairs;
-}
+puts_same f g old new same puts = search rules
 
 twice : (first second : Option Act) (e : Option Act) → option_map (λ a. unwrap_or second a) (option_map (λ a. unwrap_or first a) e) ≡ option_map (λ a. unwrap_or (option_or second first) a) e
 twice first second None = refl
@@ -36,30 +31,15 @@ twice first None (Some a) = refl
 twice first (Some b) (Some a) = refl
 
 pub puts_join : (f g : ℕ → ℕ → Option Act) (old middle new : Tables) → Puts f old middle → Puts g middle new → Puts (λ t c. option_or (g t c) (f t c)) old new
-puts_join f g old middle new first second = record {
-  entries = λ t c.
-      second.entries t c
-      ∙ ap (option_map (λ a. unwrap_or (g t c) a)) (first.entries t c)
-      ∙ twice (f t c) (g t c) (entry_of old t c);
-  funcs = second.funcs ∙ first.funcs;
-  pairs = second.pairs ∙ first.pairs;
-}
+puts_join f g old middle new first second = search (rules, twice)
 
 -- a table exists where it has entries
 existing : (k : Tables) (t : ℕ) → exists_in k t ≡ is_some (entry_of k t 0)
-existing k t = mapped (map_of k t)
-  where
-    mapped : (m : Option (List Act)) → is_some m ≡ is_some (option_map (λ map. get_or map 0 (record { kind = 0; value = 0 })) m)
-    mapped None = refl
-    mapped (Some map) = refl
+existing k t = grind (arith, is_some)
 
 pub puts_exist : (f : ℕ → ℕ → Option Act) (old new : Tables) → Puts f old new → (t : ℕ) → exists_in new t ≡ exists_in old t
 puts_exist f old new puts t =
-    existing new t ∙ ap is_some (puts.entries t 0) ∙ mapped (entry_of old t 0) (f t 0) ∙ sym (existing old t)
-  where
-    mapped : (e given : Option Act) → is_some (option_map (λ a. unwrap_or given a) e) ≡ is_some e
-    mapped None given = refl
-    mapped (Some a) given = refl
+    grind (arith, existing, is_some)
 
 -- one entry of a table that exists
 set_there : (m : Option (List Act)) (c : ℕ) (a : Act) → is_some m ≡ true → Some a ≡ option_map (λ b. unwrap_or (Some a) b) (option_map (λ map. get_or map c (record { kind = 0; value = 0 })) m)
@@ -67,38 +47,16 @@ set_there None c a h = absurd (false≢true h)
 set_there (Some map) c a h = refl
 
 pub puts_one : (old new : Tables) (table code : ℕ) (a : Act) → exists_in old table ≡ true → ((t c : ℕ) → entry_of new t c ≡ cond (t == table && c == code) (Some a) (entry_of old t c)) → new.funcs ≡ old.funcs → new.pairs ≡ old.pairs → Puts (λ t c. cond (t == table && c == code) (Some a) None) old new
-puts_one old new table code a there each funcs pairs = record {
-  entries = λ t c. each t c ∙ by_test t c;
-  funcs = funcs;
-  pairs = pairs;
-}
-  where
-    at_test : (t c : ℕ) (b : Bool) → (b ≡ true → exists_in old t ≡ true) → cond b (Some a) (entry_of old t c) ≡ option_map (λ x. unwrap_or (cond b (Some a) None) x) (entry_of old t c)
-    at_test t c true h = set_there (map_of old t) c a (h refl)
-    at_test t c false h = kept (entry_of old t c)
+puts_one old new table code a there each funcs pairs = search (rules, set_there, kept, eqb_tells, false≢true)
 
-    first_true : (x y : Bool) → (x && y) ≡ true → x ≡ true
-    first_true true y e = refl
-    first_true false y e = e
-
-    by_test : (t c : ℕ) → cond (t == table && c == code) (Some a) (entry_of old t c) ≡ option_map (λ x. unwrap_or (cond (t == table && c == code) (Some a) None) x) (entry_of old t c)
-    by_test t c = at_test t c (t == table && c == code) (λ e. elim (eqb_tells t table) [
-      | inl same ↦ subst (λ (u : ℕ). exists_in old u ≡ true) (sym same.1) there
-      | inr other ↦ absurd (false≢true (sym other.0 ∙ first_true (t == table) (c == code) e))
-    ])
+pub or_moved : {X : Type 0} (x y z : Option X) → option_or (option_or x y) z ≡ option_or x (option_or y z)
+or_moved None y z = refl
+or_moved (Some a) y z = refl
 
 -- the lines so far, and one more
 decided_more : (union : List ℕ) (lines : List KeymapLine) (l : KeymapLine) (t c : ℕ) → last_action union (lines ++ l ∷ []) t c ≡ option_or (gives union l.telling t c) (last_action union lines t c)
-decided_more union [] l t c = or_none (gives union l.telling t c)
-  where
-    or_none : (x : Option Act) → option_or None x ≡ option_or x None
-    or_none None = refl
-    or_none (Some a) = refl
+decided_more union [] l t c = search rules
 decided_more union (m ∷ lines) l t c = ap (λ x. option_or x (gives union m.telling t c)) (decided_more union lines l t c) ∙ or_moved (gives union l.telling t c) (last_action union lines t c) (gives union m.telling t c)
-  where
-    or_moved : (x y z : Option Act) → option_or (option_or x y) z ≡ option_or x (option_or y z)
-    or_moved None y z = refl
-    or_moved (Some a) y z = refl
 
 pub decided_next : (union : List ℕ) (lines : List KeymapLine) (i : ℕ) (d : KeymapLine) → i < length lines → (t c : ℕ) → option_or (gives union (get_or lines i d).telling t c) (last_action union (take i lines) t c) ≡ last_action union (take (i + 1) lines) t c
 decided_next union lines i d h t c =
@@ -111,7 +69,7 @@ everywhere_next union action code i h t c =
       | inl same ↦ ap (λ u. filled_action u action) (sym same.1)
       | inr other ↦ absurd (false≢true (sym other.0 ∙ e))
     ])
-    ∙ ap (λ b. cond (c == code) (cond b (Some (filled_action t action)) None) None) (sym (any_more (λ u. t == u) union i 0 h))
+    ∙ ap (λ b. cond (c == code) (cond b (Some (filled_action t action)) None) None) (sym (list_any_more (λ u. t == u) union i 0 h))
   where
     by_tests : (here now before : Bool) → (now ≡ true → filled_action (get_or union i 0) action ≡ filled_action t action) → option_or (cond (now && here) (Some (filled_action (get_or union i 0) action)) None) (cond here (cond before (Some (filled_action t action)) None) None) ≡ cond here (cond (before || now) (Some (filled_action t action)) None) None
     by_tests true true true e = ap Some (e refl)
@@ -123,20 +81,12 @@ everywhere_next union action code i h t c =
 
 -- one more symbol of many
 paired_more : (us : List ℕ) (acts : List Act) (u : ℕ) (a : Act) (t : ℕ) → length us ≡ length acts → action_of_table (us ++ u ∷ []) (acts ++ a ∷ []) t ≡ option_or (cond (t == u) (Some a) None) (action_of_table us acts t)
-paired_more [] [] u a t e = or_none (cond (t == u) (Some a) None)
-  where
-    or_none : (x : Option Act) → option_or None x ≡ option_or x None
-    or_none None = refl
-    or_none (Some b) = refl
+paired_more [] [] u a t e = search rules
 paired_more [] (b ∷ acts) u a t e = absurd (omega arith)
 paired_more (v ∷ us) [] u a t e = absurd (omega arith)
 paired_more (v ∷ us) (b ∷ acts) u a t e =
     ap (λ x. option_or x (cond (t == v) (Some b) None)) (paired_more us acts u a t (omega arith))
     ∙ or_moved (cond (t == u) (Some a) None) (action_of_table us acts t) (cond (t == v) (Some b) None)
-  where
-    or_moved : (x y z : Option Act) → option_or (option_or x y) z ≡ option_or x (option_or y z)
-    or_moved None y z = refl
-    or_moved (Some w) y z = refl
 
 pub paired_next : (union : List ℕ) (actions : List Act) (code i : ℕ) (d : Act) → i < length union → i < length actions → (t c : ℕ) → option_or (cond (t == get_or union i 0 && c == code) (Some (get_or actions i d)) None) (cond (c == code) (action_of_table (take i union) (take i actions) t) None) ≡ cond (c == code) (action_of_table (take (i + 1) union) (take (i + 1) actions) t) None
 paired_next union actions code i d h k t c =
@@ -154,9 +104,7 @@ paired_next union actions code i d h k t c =
 
 pub puts_entry : (f g : ℕ → ℕ → Option Act) (old middle new : Tables) (table code : ℕ) (a : Act) → Puts f old middle → exists_in middle table ≡ true → ((t c : ℕ) → entry_of new t c ≡ cond (t == table && c == code) (Some a) (entry_of middle t c)) → new ≡ with_entry middle table code a → ((t c : ℕ) → option_or (cond (t == table && c == code) (Some a) None) (f t c) ≡ g t c) → Puts g old new
 puts_entry f g old middle new table code a puts there each is same =
-    puts_same (λ t c. option_or (cond (t == table && c == code) (Some a) None) (f t c)) g old new same
-    (puts_join f (λ t c. cond (t == table && c == code) (Some a) None) old middle new puts
-    (puts_one middle new table code a there each (ap (λ (k : Tables). k.funcs) is) (ap (λ (k : Tables). k.pairs) is)))
+    grind (arith, puts_same, puts_join, puts_one)
 
 pub union_exists : (f : ℕ → ℕ → Option Act) (union : List ℕ) (old now : Tables) (i : ℕ) → HasTables union old → Puts f old now → i < length union → exists_in now (get_or union i 0) ≡ true
 union_exists f union old now i has puts h =

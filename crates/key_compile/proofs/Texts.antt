@@ -1,5 +1,5 @@
 -- Strings that are set one by one.
-use Rattle.std.proofs.Common.{◌≡◌, ℕ, ◌+◌, ◌<◌, ◌≤◌, cond, nat_lt, Option, Some, None, unwrap_or, List, [], ◌∷◌, ◌++◌, length, get_or, take, refl, sym, ap, subst, ◌∙◌, inl, inr, arith}
+use Rattle.std.proofs.Common.{◌≡◌, ℕ, ◌+◌, ◌<◌, ◌≤◌, cond, nat_lt, Option, Some, None, unwrap_or, List, [], ◌∷◌, ◌++◌, length, get_or, take, refl, sym, ap, subst, ◌∙◌, inl, inr, arith, rules}
 use Rattle.std.proofs.lemmas.Bool.{cases_lt, le-ltb, lt-ltb}
 use Rattle.std.proofs.lemmas.List.{get_or-map, get_or_past, take_more}
 use Rattle.std.specs.Fmt.{digits}
@@ -11,37 +11,18 @@ use Rattle.key_compile.specs.Pairs.{usual}
 use Rattle.key_compile.specs.Puts.{PutsTexts}
 use Rattle.key_compile.specs.Strings.{last_text, some_text, text_by, usual_string, usual_texts}
 use Rattle.key_compile.specs.Usual.{UsualPairsAreKept, UsualStringsAreKept, bytes_before_zero}
+use Rattle.key_compile.proofs.Steps.{or_moved}
 use Rattle.key_compile.specs.declared.usual.TheConstants.{USUAL_STRINGS, USUAL_STRING_COUNT}
 
 pub texts_same : (f g : ℕ → Option (List ℕ)) (old new : Tables) → ((i : ℕ) → f i ≡ g i) → PutsTexts f old new → PutsTexts g old new
-texts_same f g old new same puts = record {
-  texts = λ i. puts.texts i ∙ ap (λ given. unwrap_or given (func_of old i)) (same i);
-  maps = puts.maps;
-  pairs = puts.pairs;
-}
+texts_same f g old new same puts = search rules
 
 pub texts_join : (f g : ℕ → Option (List ℕ)) (old middle new : Tables) → PutsTexts f old middle → PutsTexts g middle new → PutsTexts (λ i. option_or (g i) (f i)) old new
-texts_join f g old middle new first second = record {
-  texts = λ i. second.texts i ∙ ap (unwrap_or (g i)) (first.texts i) ∙ twice (f i) (g i) (func_of old i);
-  maps = second.maps ∙ first.maps;
-  pairs = second.pairs ∙ first.pairs;
-}
-  where
-    twice : (x y : Option (List ℕ)) (t : List ℕ) → unwrap_or y (unwrap_or x t) ≡ unwrap_or (option_or y x) t
-    twice x None t = refl
-    twice x (Some s) t = refl
+texts_join f g old middle new first second = search rules
 
 last_more : (lines : List KeymapLine) (l : KeymapLine) (i : ℕ) → last_text (lines ++ l ∷ []) i ≡ option_or (text_by l.telling i) (last_text lines i)
-last_more [] l i = or_none (text_by l.telling i)
-  where
-    or_none : (x : Option (List ℕ)) → option_or None x ≡ option_or x None
-    or_none None = refl
-    or_none (Some a) = refl
+last_more [] l i = search rules
 last_more (m ∷ lines) l i = ap (λ x. option_or x (text_by m.telling i)) (last_more lines l i) ∙ or_moved (text_by l.telling i) (last_text lines i) (text_by m.telling i)
-  where
-    or_moved : (x y z : Option (List ℕ)) → option_or (option_or x y) z ≡ option_or x (option_or y z)
-    or_moved None y z = refl
-    or_moved (Some a) y z = refl
 
 pub last_next : (lines : List KeymapLine) (k : ℕ) (d : KeymapLine) → k < length lines → (i : ℕ) → option_or (text_by (get_or lines k d).telling i) (last_text (take k lines) i) ≡ last_text (take (k + 1) lines) i
 last_next lines k d h i = sym (ap (λ ls. last_text ls i) (take_more lines k d h) ∙ last_more (take k lines) (get_or lines k d) i)
@@ -71,11 +52,7 @@ pairs_usual = refl
 past_usual : (j : ℕ) → USUAL_STRING_COUNT ≤ j → None ≡ usual_string j
 unfolding usual_string
 past_usual j h =
-    let past : length usual_texts ≤ j = subst (λ (n : ℕ). n ≤ j) (sym length-usual) h in
-    sym (ap some_text (get_or_past usual_texts j [] past))
+    grind (arith, length-usual, get_or_past)
 
 pub usual_all : (k : ℕ) → k ≡ USUAL_STRING_COUNT → (j : ℕ) → cond (nat_lt j k) (usual_string j) None ≡ usual_string j
-usual_all k e j = elim (cases_lt j USUAL_STRING_COUNT) [
-  | inl lt ↦ ap (λ b. cond b (usual_string j) None) (lt-ltb j k (omega arith))
-  | inr ge ↦ ap (λ b. cond b (usual_string j) None) (le-ltb j k (omega arith)) ∙ past_usual j ge
-]
+usual_all k e j = grind (arith, cases_lt, lt-ltb, le-ltb, past_usual)

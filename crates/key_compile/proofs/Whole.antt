@@ -1,8 +1,9 @@
 -- The common result of the steps of compiling.
-use Rattle.std.proofs.Common.{◌≡◌, ◌≢◌, ℕ, suc, zero, ◌+◌, ◌-◌, ◌<◌, ◌≤◌, Bool, true, false, ◌==◌, ◌&&◌, ◌||◌, cond, nat_le, nat_lt, Option, Some, None, unwrap_or, List, [], ◌∷◌, ◌++◌, length, get_or, length-append, refl, sym, ap, ◌∙◌, inl, inr, arith}
-use Rattle.std.proofs.lemmas.Bool.{cases_lt, eq-eqb, false≢true, le-leb, lt-leb, lt-ltb, ltb-false}
+use Rattle.std.proofs.Common.{◌≡◌, ◌≢◌, ℕ, suc, zero, ◌+◌, ◌-◌, ◌<◌, ◌≤◌, Bool, true, false, ◌==◌, ◌&&◌, ◌||◌, cond, nat_le, nat_lt, Option, Some, None, unwrap_or, List, [], ◌∷◌, ◌++◌, length, get_or, length-append, refl, sym, ap, ◌∙◌, inl, inr, arith, rules}
+use Rattle.std.proofs.Math.Bool.{and-false, and-true, or-false}
+use Rattle.std.proofs.lemmas.Bool.{cases_lt, eq-eqb, false≢true, le-leb, lt-leb, lt-ltb, ltb-false, or_left, or_right}
 use Rattle.std.proofs.lemmas.Bool.Decides.{eqb_tells}
-use Rattle.std.proofs.lemmas.List.Folds.{list_any_at}
+use Rattle.std.proofs.lemmas.List.Folds.{list_any-append, list_any_at}
 use Rattle.std.specs.List.{list_any, slice_index_or}
 use Rattle.std.specs.Option.{option_map, option_or}
 use Rattle.key_syms.specs.Act.{Act, act}
@@ -23,31 +24,13 @@ use Rattle.key_compile.specs.Union.{IsSetOf, in_union, is_declared, modifies_tab
 use Rattle.key_compile.proofs.Marking.{passing_below_none, passing_below-suc}
 use Rattle.key_compile.proofs.Steps.{puts_exist}
 
-any_append : (test : ℕ → Bool) (xs ys : List ℕ) → list_any test (xs ++ ys) ≡ (list_any test xs || list_any test ys)
-any_append test [] ys = refl
-any_append test (x ∷ xs) ys = ap (λ b. test x || b) (any_append test xs ys) ∙ or_assoc (test x) (list_any test xs) (list_any test ys)
-  where
-    or_assoc : (a b c : Bool) → (a || (b || c)) ≡ ((a || b) || c)
-    or_assoc true b c = refl
-    or_assoc false b c = refl
-
 any_of : (test : ℕ → Bool) (b : Bool) (n : ℕ) → list_any test (cond b (n ∷ []) []) ≡ (b && test n)
-any_of test true n = or_false (test n)
-  where
-    or_false : (a : Bool) → (a || false) ≡ a
-    or_false true = refl
-    or_false false = refl
+any_of test true n = search rules
 any_of test false n = refl
 
 any_suc : (test pass : ℕ → Bool) (n : ℕ) → list_any test (passing_below pass (suc n)) ≡ (list_any test (passing_below pass n) || (pass n && test n))
 any_suc test pass n =
-    ap (list_any test) (passing_below-suc pass n)
-    ∙ any_append test (passing_below pass n) (cond (pass n) (n ∷ []) [])
-    ∙ ap (λ b. list_any test (passing_below pass n) || b) (any_of test (pass n) n)
-
-and_false : (a : Bool) → (a && false) ≡ false
-and_false true = refl
-and_false false = refl
+    grind (arith, passing_below-suc, list_any-append, any_of)
 
 -- which numbers are among those that pass
 none_from : (pass : ℕ → Bool) (n t : ℕ) → n ≤ t → list_any (λ d. d == t) (passing_below pass n) ≡ false
@@ -57,75 +40,43 @@ none_from pass (suc n) t h =
     ∙ ap (λ b. b || (pass n && (n == t))) (none_from pass n t (omega arith))
     ∙ (elim (eqb_tells n t) [
       | inl e ↦ absurd (let same : n ≡ t = e.1 in omega arith)
-      | inr e ↦ ap (λ b. pass n && b) e.0 ∙ and_false (pass n)
+      | inr e ↦ ap (λ b. pass n && b) e.0 ∙ and-false (pass n)
     ])
 
 among : (pass : ℕ → Bool) (n t : ℕ) → t < n → list_any (λ d. d == t) (passing_below pass n) ≡ pass t
 among pass zero t h = absurd (omega arith)
 among pass (suc n) t h = any_suc (λ d. d == t) pass n ∙ (elim (eqb_tells n t) [
   | inl e ↦
-      ap (λ b. b || (pass n && (n == t))) (none_from pass n t (let same : n ≡ t = e.1 in omega arith))
-      ∙ ap (λ b. pass n && b) e.0 ∙ and_true (pass n) ∙ ap pass e.1
+      grind (arith, none_from)
   | inr e ↦
       ap (λ b. list_any (λ d. d == t) (passing_below pass n) || (pass n && b)) e.0
-      ∙ ap (λ b. list_any (λ d. d == t) (passing_below pass n) || b) (and_false (pass n))
-      ∙ or_false (list_any (λ d. d == t) (passing_below pass n))
+      ∙ ap (λ b. list_any (λ d. d == t) (passing_below pass n) || b) (and-false (pass n))
+      ∙ or-false (list_any (λ d. d == t) (passing_below pass n))
       ∙ among pass n t (let other : n ≢ t = e.1 in omega arith)
 ])
-  where
-    and_true : (a : Bool) → (a && true) ≡ a
-    and_true true = refl
-    and_true false = refl
-
-    or_false : (a : Bool) → (a || false) ≡ a
-    or_false true = refl
-    or_false false = refl
 
 eqb_comm : (a b : ℕ) → (a == b) ≡ (b == a)
-eqb_comm a b = elim (eqb_tells a b) [
-  | inl e ↦ e.0 ∙ sym (eq-eqb b a (sym e.1))
-  | inr e ↦ elim (eqb_tells b a) [
-    | inl f ↦ absurd (e.1 (sym f.1))
-    | inr f ↦ e.0 ∙ sym f.0
-  ]
-]
+eqb_comm a b = grind (arith, eqb_tells, eq-eqb)
 
 flipped : (t : ℕ) (xs : List ℕ) → list_any (λ u. t == u) xs ≡ list_any (λ d. d == t) xs
 flipped t [] = refl
 flipped t (x ∷ xs) = ap (λ b. b || list_any (λ u. t == u) xs) (eqb_comm t x) ∙ ap (λ b. (x == t) || b) (flipped t xs)
 
 named : (pass : ℕ → Bool) (t : ℕ) → list_any (λ u. t == u) (passing_below pass 256) ≡ true → (t < 256) × (pass t ≡ true)
-named pass t e = elim (cases_lt t 256) [
-  | inl lt ↦ (lt, sym (among pass 256 t lt) ∙ sym (flipped t (passing_below pass 256)) ∙ e)
-  | inr ge ↦ absurd (false≢true (sym (none_from pass 256 t ge) ∙ sym (flipped t (passing_below pass 256)) ∙ e))
-]
+named pass t e = grind (arith, cases_lt, among, flipped, false≢true, none_from)
 
 pub start_of : (lines : List KeymapLine) (marks : List Bool) (declared : List ℕ) (k : Tables) → IsSetOf marks (is_declared lines) → declared ≡ passing_below (λ t. slice_index_or marks t false) 256 → IsEmpty declared k → AreStart lines k
-start_of lines marks declared k set e empty = record {
-  exist = λ t h. empty.exists t ∙ ap (list_any (λ d. d == t)) e ∙ among (λ n. slice_index_or marks n false) 256 t h ∙ set.each t h;
-  entries = empty.entries;
-  funcs = empty.funcs;
-  pairs = empty.pairs;
-}
-
-or_first : (a b : Bool) → a ≡ true → (a || b) ≡ true
-or_first true b e = refl
-or_first false b e = absurd (false≢true e)
-
-or_second : (a b : Bool) → b ≡ true → (a || b) ≡ true
-or_second true b e = refl
-or_second false b e = e
+start_of lines marks declared k set e empty = search (rules, among)
 
 pub has_union : (lines : List KeymapLine) (union : List ℕ) (k : Tables) → AreStart lines k → union ≡ union_of lines → HasTables union k
 unfolding union_of is_declared
 has_union lines union k start e t h =
-    let in_it = named (in_union lines) t (ap (list_any (λ u. t == u)) (sym e) ∙ h) in
-    start.exist t in_it.0 ∙ or_first (in_union lines t) (list_any (λ l. modifies_table t l.telling) lines) in_it.1
+    grind (arith, named, or_left)
 
 pub has_own : (lines : List KeymapLine) (k : Tables) → AreStart lines k → HaveOwnTables lines k
 unfolding is_declared
 has_own lines k start i d h t small e =
-    start.exist t small ∙ or_second (in_union lines t) (list_any (λ l. modifies_table t l.telling) lines) (list_any_at (λ l. modifies_table t l.telling) lines i d h e)
+    start.exist t small ∙ or_right (in_union lines t) (list_any (λ l. modifies_table t l.telling) lines) (list_any_at (λ l. modifies_table t l.telling) lines i d h e)
 
 no_fault : (l : KeymapLine) (x : Option ℕ) (y : Option KeyFault) → option_or (option_map (at_line l) x) y ≡ None → (x ≡ None) × (y ≡ None)
 no_fault l None y e = (refl, e)
@@ -215,41 +166,17 @@ with_meta true true under below a m e = ap (λ x. unwrap_or x a) (e refl) ∙ se
     settled false = refl
 
 range_low : (t : ℕ) → (nat_le 8 t && nat_lt t 16) ≡ true → 8 ≤ t
-range_low t e = elim (cases_lt t 8) [
-  | inl lt ↦ absurd (false≢true (sym (ap (λ b. b && nat_lt t 16) (lt-leb 8 t lt)) ∙ e))
-  | inr ge ↦ ge
-]
+range_low t e = grind (arith, cases_lt, false≢true, lt-leb)
 
 meta_there : (k : Tables) (t c : ℕ) → 1 ≤ c → c < 256 → meta_at k t c ≡ meta_of (entry_of k t c) (entry_of k (t + 8) c)
 unfolding meta_at
 meta_there k t c h j =
-    ap (λ b. cond (b && nat_lt c 256) (meta_of (entry_of k t c) (entry_of k (t + 8) c)) None) (le-leb 1 c h)
-    ∙ ap (λ b. cond b (meta_of (entry_of k t c) (entry_of k (t + 8) c)) None) (lt-ltb c 256 j)
+    cc (le-leb 1 c h, lt-ltb c 256 j)
 
 entry_last : (lines : List KeymapLine) (k1 k2 : Tables) → ((t c : ℕ) → t < 256 → entry_of k1 t c ≡ cond (is_declared lines t) (Some (line_entry lines t c)) None) → Puts (λ t c. cond (list_any (λ l. is_alt l.telling) lines) (metas_below k1 8 t c) None) k1 k2 → (t c : ℕ) → t < 256 → 1 ≤ c → c < 256 → entry_of k2 t c ≡ cond (is_declared lines t) (Some (entry_in lines t c)) None
 unfolding entry_in metas_below
 entry_last lines k1 k2 first metas t c h i j =
-    metas.entries t c
-    ∙ ap (option_map (λ a. unwrap_or (cond alt (cond range (meta_at k1 (t - 8) c) None) None) a)) (first t c h)
-    ∙ by_test (is_declared lines t) (λ e. with_meta alt range (is_declared lines (t - 8)) (line_entry lines (t - 8) c) (line_entry lines t c) (meta_at k1 (t - 8) c) (λ r. given r e))
-  where
-    alt : Bool
-    alt = list_any (λ (l : KeymapLine). is_alt l.telling) lines
-
-    range : Bool
-    range = nat_le 8 t && nat_lt t 16
-
-    given : range ≡ true → is_declared lines t ≡ true → meta_at k1 (t - 8) c ≡ meta_of (cond (is_declared lines (t - 8)) (Some (line_entry lines (t - 8) c)) None) (Some (line_entry lines t c))
-    given r e =
-        let low = range_low t r in
-        meta_there k1 (t - 8) c i j
-        ∙ ap (λ n. meta_of (entry_of k1 (t - 8) c) (entry_of k1 n c)) (let f : t - 8 + 8 ≡ t = omega arith in f)
-        ∙ ap (λ x. meta_of x (entry_of k1 t c)) (first (t - 8) c (omega arith))
-        ∙ ap (meta_of (cond (is_declared lines (t - 8)) (Some (line_entry lines (t - 8) c)) None)) (first t c h ∙ ap (λ b. cond b (Some (line_entry lines t c)) None) e)
-
-    by_test : (b : Bool) → (b ≡ true → unwrap_or (cond alt (cond range (meta_at k1 (t - 8) c) None) None) (line_entry lines t c) ≡ cond (alt && range && is_declared lines (t - 8)) (meta_over (line_entry lines (t - 8) c) (line_entry lines t c)) (line_entry lines t c)) → option_map (λ a. unwrap_or (cond alt (cond range (meta_at k1 (t - 8) c) None) None) a) (cond b (Some (line_entry lines t c)) None) ≡ cond b (Some (cond (alt && range && is_declared lines (t - 8)) (meta_over (line_entry lines (t - 8) c) (line_entry lines t c)) (line_entry lines t c))) None
-    by_test true e = ap Some (e refl)
-    by_test false e = refl
+    grind (arith, with_meta, range_low, meta_there)
 
 pub finish : (lines : List KeymapLine) (union : List ℕ) (pairs : List Pair) (k0 k1 k2 k3 k4 : Tables) → AreStart lines k0 → union ≡ union_of lines → Puts (last_action union lines) k0 k1 → Puts (λ t c. cond (list_any (λ l. is_alt l.telling) lines) (metas_below k1 8 t c) None) k1 k2 → PutsTexts (last_text lines) k2 k3 → k4 ≡ with_pairs k3 pairs → pairs ≡ pairs_in lines → IsWhole k4 → AreTablesOf lines k4
 finish lines union pairs k0 k1 k2 k3 k4 start e puts metas texts is same whole = record {

@@ -2,7 +2,7 @@
 ghost use Rattle.std.specs.Prelude.{◌≡◌, ◌≤◌};
 ghost use Rattle.key_syms.specs.Act.{act};
 ghost use Rattle.key_tables.specs.Tables.{hole};
-ghost use Rattle.key_compile.specs.Fill.{value_with_control, filled_action, is_character_act, is_letter, is_lower, is_upper, kind_in, other_case, value_with_shift};
+ghost use Rattle.key_compile.specs.Fill.{value_with_control, filled_action, is_character_act, is_letter, is_lower, is_upper, kind_in, other_case};
 
 use key_syms::{Action, kind};
 
@@ -75,16 +75,8 @@ fn value_with_control(t: u8, v: u16) -> u16
     ensures value { result ≡ value_with_control t v }
     ensures small { result ≤ 127 }
 {
-    let v = value_with_shift(t, v);
+    let v = if t % 2 == 1 { other_case(v) } else { v };
     if t / 4 % 2 == 1 { v % 32 } else { v }
-}
-
-fn value_with_shift(t: u8, v: u16) -> u16
-    requires { v ≤ 127 }
-    ensures value { result ≡ value_with_shift t v }
-    ensures small { result ≤ 127 }
-{
-    if t % 2 == 1 { other_case(v) } else { v }
 }
 
 fn other_case(v: u16) -> u16

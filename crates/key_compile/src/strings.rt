@@ -60,16 +60,8 @@ fn usual_text(i: usize) -> &'static [u8]
     ensures value { some_text result.now ≡ usual_string i }
     ensures short { length result.now ≤ 255 }
 {
-    let row = row_at(i);
+    let row = &USUAL_STRINGS[i];
     &row[..len_of(row)]
-}
-
-fn row_at(i: usize) -> &'static [u8]
-    requires { i < USUAL_STRING_COUNT }
-    ensures value { result.now ≡ slice_index_or USUAL_STRINGS i [] }
-    ensures five { length result.now ≡ 5 }
-{
-    &USUAL_STRINGS[i]
 }
 
 // The number of bytes before the first 0.

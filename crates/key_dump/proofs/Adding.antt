@@ -1,7 +1,10 @@
 -- Texts that grow by rows, one after another.
 use Rattle.std.proofs.Common.{◌≡◌, ℕ, zero, suc, ◌+◌, ◌<◌, ◌≤◌, Bool, true, false, cond, Option, Some, None, is_some, unwrap_or, IfSome, List, [], ◌∷◌, ◌++◌, codes, decimal, filter, map, length, get_or, take, append_assoc, append-nil, refl, sym, ap, ◌∙◌, arith}
 use Rattle.std.proofs.lemmas.Bool.{false≢true}
-use Rattle.std.proofs.lemmas.List.{take_all}
+use Rattle.std.proofs.Math.Seq.{take-suc}
+use Rattle.std.proofs.lemmas.Grind.{flat_map-append}
+use Rattle.std.proofs.lemmas.List.{map-append, take_all}
+use Rattle.std.proofs.lemmas.List.Elements.{filter-append}
 use Rattle.std.specs.List.{flat_map, join_with_byte, range_with_len, slice_index_or}
 use Rattle.std.specs.Option.{option_map, option_map_or}
 use Rattle.key_syms.specs.Act.{Act}
@@ -9,18 +12,13 @@ use Rattle.key_tables.specs.Tables.{IsMap, IsWhole, Tables, entry_of, exists_in,
 use Rattle.key_dump.specs.Dump.{Modifier, entry_rows, row_text, rows_from, table_numbers, table_rows}
 use Rattle.key_dump.specs.Spaced.{blank_after_each}
 
-pub flat_map-append : {X Y : Type 0} (f : X → List Y) (xs ys : List X) → flat_map f (xs ++ ys) ≡ flat_map f xs ++ flat_map f ys
-flat_map-append f [] ys = refl
-flat_map-append f (x ∷ xs) ys = ap (λ rest. f x ++ rest) (flat_map-append f xs ys) ∙ sym (append_assoc (f x) (flat_map f xs) (flat_map f ys))
-
-rows_from_more : {X Row : Type 0} (rows : ℕ → X → List Row) (from : ℕ) (xs : List X) (i : ℕ) (d : X) → i < length xs → rows_from rows from (take (suc i) xs) ≡ rows_from rows from (take i xs) ++ rows (from + i) (get_or xs i d)
-rows_from_more rows from [] i d h = absurd (omega arith)
-rows_from_more rows from (x ∷ xs) zero d h =
-    append-nil (rows from x) ∙ ap (λ n. rows n x) (let e : from ≡ from + 0 = omega arith in e)
-rows_from_more rows from (x ∷ xs) (suc i) d h =
-    ap (λ rest. rows from x ++ rest) (rows_from_more rows (suc from) xs i d (omega arith))
-    ∙ sym (append_assoc (rows from x) (rows_from rows (suc from) (take i xs)) (rows (suc from + i) (get_or xs i d)))
-    ∙ ap (λ n. (rows from x ++ rows_from rows (suc from) (take i xs)) ++ rows n (get_or xs i d)) (let e : suc from + i ≡ from + suc i = omega arith in e)
+rows_from_more : {X Row : Type 0} (rows : ℕ → X → List Row) (from : ℕ) (xs : List X) (i n : ℕ) (d : X) → n ≡ from + i → i < length xs → rows_from rows from (take (suc i) xs) ≡ rows_from rows from (take i xs) ++ rows n (get_or xs i d)
+rows_from_more rows from [] i n d e h = absurd (omega arith)
+rows_from_more rows from (x ∷ xs) zero n d e h =
+    append-nil (rows from x) ∙ ap (λ m. rows m x) (let same : from ≡ n = omega arith in same)
+rows_from_more rows from (x ∷ xs) (suc i) n d e h =
+    ap (λ rest. rows from x ++ rest) (rows_from_more rows (suc from) xs i n d (omega arith) (omega arith))
+    ∙ sym (append_assoc (rows from x) (rows_from rows (suc from) (take i xs)) (rows n (get_or xs i d)))
 
 -- the rows of one item more
 pub rows_more : {X Row : Type 0} (text : Row → List ℕ) (rows : ℕ → X → List Row) (xs : List X) (i : ℕ) (d : X) (start before after : List ℕ) → i < length xs → after ≡ before ++ flat_map text (rows i (get_or xs i d)) → before ≡ start ++ flat_map text (rows_from rows 0 (take i xs)) → after ≡ start ++ flat_map text (rows_from rows 0 (take (i + 1) xs))
@@ -28,58 +26,27 @@ rows_more text rows xs i d start before after h added so_far =
     added ∙ ap (λ b. b ++ flat_map text (rows i (get_or xs i d))) so_far
     ∙ append_assoc start (flat_map text (rows_from rows 0 (take i xs))) (flat_map text (rows i (get_or xs i d)))
     ∙ ap (λ rest. start ++ rest)
-    (ap (λ n. flat_map text (rows_from rows 0 (take i xs)) ++ flat_map text (rows n (get_or xs i d))) (let k : i ≡ 0 + i = omega arith in k)
-    ∙ sym (flat_map-append text (rows_from rows 0 (take i xs)) (rows (0 + i) (get_or xs i d)))
-    ∙ ap (flat_map text) (sym (rows_from_more rows 0 xs i d h))
+    (sym (flat_map-append text (rows_from rows 0 (take i xs)) (rows i (get_or xs i d)))
+    ∙ ap (flat_map text) (sym (rows_from_more rows 0 xs i i d (omega arith) h))
     ∙ ap (λ n. flat_map text (rows_from rows 0 (take n xs))) (let k : suc i ≡ i + 1 = omega arith in k))
 
 -- the rows of all items
 pub rows_all : {X Row : Type 0} (text : Row → List ℕ) (rows : ℕ → X → List Row) (xs : List X) (i : ℕ) (start after : List ℕ) → length xs ≤ i → after ≡ start ++ flat_map text (rows_from rows 0 (take i xs)) → after ≡ start ++ flat_map text (rows_from rows 0 xs)
 rows_all text rows xs i start after h e = e ∙ ap (λ ys. start ++ flat_map text (rows_from rows 0 ys)) (take_all i xs h)
 
-take_more : {X : Type 0} (xs : List X) (i : ℕ) (d : X) → i < length xs → take (suc i) xs ≡ take i xs ++ get_or xs i d ∷ []
-take_more [] i d h = absurd (omega arith)
-take_more (x ∷ xs) zero d h = refl
-take_more (x ∷ xs) (suc i) d h = ap (λ rest. x ∷ rest) (take_more xs i d (omega arith))
-
 -- one item more, of items that are mapped
 pub mapped_more : {X Row : Type 0} (text : Row → List ℕ) (row : X → Row) (xs : List X) (i : ℕ) (d : X) (start before after : List ℕ) → i < length xs → after ≡ before ++ text (row (get_or xs i d)) → before ≡ start ++ flat_map text (map row (take i xs)) → after ≡ start ++ flat_map text (map row (take (i + 1) xs))
-mapped_more {X = X} text row xs i d start before after h added so_far =
+mapped_more text row xs i d start before after h added so_far =
     added ∙ ap (λ b. b ++ text (row (get_or xs i d))) so_far
     ∙ append_assoc start (flat_map text (map row (take i xs))) (text (row (get_or xs i d)))
-    ∙ ap (λ rest. start ++ rest) (sym (pushed (take i xs) (get_or xs i d)) ∙ ap (λ ys. flat_map text (map row ys)) (sym (take_more xs i d h)) ∙ ap (λ n. flat_map text (map row (take n xs))) (let k : suc i ≡ i + 1 = omega arith in k))
-  where
-    pushed : (ys : List X) (y : X) → flat_map text (map row (ys ++ y ∷ [])) ≡ flat_map text (map row ys) ++ text (row y)
-    pushed [] y = append-nil (text (row y))
-    pushed (z ∷ ys) y = ap (λ rest. text (row z) ++ rest) (pushed ys y) ∙ sym (append_assoc (text (row z)) (flat_map text (map row ys)) (text (row y)))
+    ∙ ap (λ rest. start ++ (flat_map text (map row (take i xs)) ++ rest)) (sym (append-nil (text (row (get_or xs i d)))))
+    ∙ ap (λ rest. start ++ rest) (sym (flat_map-append text (map row (take i xs)) (row (get_or xs i d) ∷ [])))
+    ∙ ap (λ rows. start ++ flat_map text rows) (sym (map-append row (take i xs) (get_or xs i d ∷ [])))
+    ∙ ap (λ ys. start ++ flat_map text (map row ys)) (sym (take-suc xs i d h) ∙ ap (λ n. take n xs) (let k : suc i ≡ i + 1 = omega arith in k))
 
--- texts, one after another
+-- a text after two more
 pub two_more : (start a b u v : List ℕ) → a ≡ start ++ u → b ≡ a ++ v → b ≡ start ++ (u ++ v)
 two_more start a b u v p q = q ∙ ap (λ t. t ++ v) p ∙ append_assoc start u v
-
-pub three_more : (start a b c u v w : List ℕ) → a ≡ start ++ u → b ≡ a ++ v → c ≡ b ++ w → c ≡ start ++ (u ++ (v ++ w))
-three_more start a b c u v w p q r =
-    two_more start a c u (v ++ w) p (two_more a b c v w q r)
-
-pub four_more : (start a b c d u v w x : List ℕ) → a ≡ start ++ u → b ≡ a ++ v → c ≡ b ++ w → d ≡ c ++ x → d ≡ start ++ (u ++ (v ++ (w ++ x)))
-four_more start a b c d u v w x p q r s =
-    two_more start a d u (v ++ (w ++ x)) p (three_more a b c d v w x q r s)
-
-pub five_more : (start a b c d e u v w x y : List ℕ) → a ≡ start ++ u → b ≡ a ++ v → c ≡ b ++ w → d ≡ c ++ x → e ≡ d ++ y → e ≡ start ++ (u ++ (v ++ (w ++ (x ++ y))))
-five_more start a b c d e u v w x y p q r s t =
-    two_more start a e u (v ++ (w ++ (x ++ y))) p (four_more a b c d e v w x y q r s t)
-
-pub six_more : (start a b c d e f u v w x y z : List ℕ) → a ≡ start ++ u → b ≡ a ++ v → c ≡ b ++ w → d ≡ c ++ x → e ≡ d ++ y → f ≡ e ++ z → f ≡ start ++ (u ++ (v ++ (w ++ (x ++ (y ++ z)))))
-six_more start a b c d e f u v w x y z p q r s t o =
-    two_more start a f u (v ++ (w ++ (x ++ (y ++ z)))) p (five_more a b c d e f v w x y z q r s t o)
-
-pub seven_more : (start a b c d e f g u v w x y z k : List ℕ) → a ≡ start ++ u → b ≡ a ++ v → c ≡ b ++ w → d ≡ c ++ x → e ≡ d ++ y → f ≡ e ++ z → g ≡ f ++ k → g ≡ start ++ (u ++ (v ++ (w ++ (x ++ (y ++ (z ++ k))))))
-seven_more start a b c d e f g u v w x y z k p q r s t o m =
-    two_more start a g u (v ++ (w ++ (x ++ (y ++ (z ++ k))))) p (six_more a b c d e f g v w x y z k q r s t o m)
-
-pub eight_more : (start a b c d e f g h u v w x y z k l : List ℕ) → a ≡ start ++ u → b ≡ a ++ v → c ≡ b ++ w → d ≡ c ++ x → e ≡ d ++ y → f ≡ e ++ z → g ≡ f ++ k → h ≡ g ++ l → h ≡ start ++ (u ++ (v ++ (w ++ (x ++ (y ++ (z ++ (k ++ l)))))))
-eight_more start a b c d e f g h u v w x y z k l p q r s t o m n =
-    two_more start a h u (v ++ (w ++ (x ++ (y ++ (z ++ (k ++ l)))))) p (seven_more a b c d e f g h v w x y z k l q r s t o m n)
 
 -- words with blanks between, of which the first ones have one after each
 pub join_blank_after_each : (ws : List (List ℕ)) (w : List ℕ) (vs : List (List ℕ)) → join_with_byte 0x20 (ws ++ w ∷ vs) ≡ blank_after_each ws ++ join_with_byte 0x20 (w ∷ vs)
@@ -125,23 +92,12 @@ pub numbers_below_more : (test : ℕ → Bool) (n : ℕ) → numbers_below test 
 unfolding numbers_below
 numbers_below_more test n =
     ap (λ m. filter test (range_with_len 0 m)) (let e : n + 1 ≡ suc n = omega arith in e)
-    ∙ ap (filter test) (range-more 0 n)
-    ∙ filter-more (range_with_len 0 n) (0 + n)
-    ∙ ap (λ m. filter test (range_with_len 0 n) ++ cond (test m) (m ∷ []) []) (let e : 0 + n ≡ n = omega arith in e)
+    ∙ ap (filter test) (range_more 0 n n (omega arith))
+    ∙ filter-append test (range_with_len 0 n) (n ∷ [])
   where
-    range-more : (a n : ℕ) → range_with_len a (suc n) ≡ range_with_len a n ++ (a + n) ∷ []
-    range-more a zero = ap (λ m. m ∷ []) (let e : a ≡ a + 0 = omega arith in e)
-    range-more a (suc n) =
-        ap (λ rest. a ∷ rest) (range-more (a + 1) n)
-        ∙ ap (λ m. a ∷ (range_with_len (a + 1) n ++ m ∷ [])) (let e : a + 1 + n ≡ a + suc n = omega arith in e)
-
-    filter-more : (xs : List ℕ) (x : ℕ) → filter test (xs ++ x ∷ []) ≡ filter test xs ++ cond (test x) (x ∷ []) []
-    filter-more [] x = refl
-    filter-more (y ∷ ys) x = by_test (filter-more ys x) (test y)
-      where
-        by_test : filter test (ys ++ x ∷ []) ≡ filter test ys ++ cond (test x) (x ∷ []) [] → (b : Bool) → cond b (y ∷ filter test (ys ++ x ∷ [])) (filter test (ys ++ x ∷ [])) ≡ cond b (y ∷ filter test ys) (filter test ys) ++ cond (test x) (x ∷ []) []
-        by_test rest true = ap (λ t. y ∷ t) rest
-        by_test rest false = rest
+    range_more : (a n m : ℕ) → m ≡ a + n → range_with_len a (suc n) ≡ range_with_len a n ++ m ∷ []
+    range_more a zero m e = ap (λ k. k ∷ []) (let same : a ≡ m = omega arith in same)
+    range_more a (suc n) m e = ap (λ rest. a ∷ rest) (range_more (a + 1) n m (omega arith))
 
 pub numbers_all : (k : Tables) (n : ℕ) → n ≡ 256 → numbers_below (exists_in k) n ≡ table_numbers k
 unfolding numbers_below table_numbers
@@ -153,10 +109,6 @@ join_more (x ∷ []) w = refl
 join_more (x ∷ y ∷ ys) w =
     ap (λ rest. x ++ (0x2C ∷ rest)) (join_more (y ∷ ys) w)
     ∙ sym (append_assoc x (0x2C ∷ join_with_byte 0x2C (y ∷ ys)) (codes "," ++ w))
-
-map_more : (ns : List ℕ) (n : ℕ) → map decimal (ns ++ n ∷ []) ≡ map decimal ns ++ decimal n ∷ []
-map_more [] n = refl
-map_more (m ∷ ns) n = ap (λ rest. decimal m ∷ rest) (map_more ns n)
 
 some_items-map : (ns : List ℕ) → some_items (map decimal ns) ≡ some_items ns
 some_items-map [] = refl
@@ -194,7 +146,7 @@ numbered_yes test start bytes comma after some n so_far table first second =
     ∙ append_assoc start (join_with_byte 0x2C (map decimal ns)) (cond some (codes ",") [] ++ decimal n)
     ∙ ap (λ b. start ++ (join_with_byte 0x2C (map decimal ns) ++ (cond b (codes ",") [] ++ decimal n))) (so_far.any ∙ sym (some_items-map ns))
     ∙ ap (λ t. start ++ t) (sym (join_more (map decimal ns) (decimal n)))
-    ∙ ap (λ ws. start ++ join_with_byte 0x2C ws) (sym (map_more ns n)))
+    ∙ ap (λ ws. start ++ join_with_byte 0x2C ws) (sym (map-append decimal ns (n ∷ []))))
     (sym (some_items_more ns n))
 
 -- the entries of a table

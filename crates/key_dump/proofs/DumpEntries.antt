@@ -1,5 +1,5 @@
 -- The entries, strings and pairs of the lines of a dump.
-use Rattle.std.proofs.Common.{◌≡◌, ◌≢◌, ℕ, ◌-◌, ◌<◌, Bool, true, false, ◌==◌, ◌&&◌, leb, ltb, cond, Option, Some, None, is_some, unwrap_or, IfSome, IsTrue, inl, inr, List, [], ◌∷◌, ◌++◌, length, get_or, map, refl, sym, ap, ◌∙◌, arith}
+use Rattle.std.proofs.Common.{◌≡◌, ◌≢◌, ℕ, ◌-◌, ◌<◌, Bool, true, false, ◌==◌, ◌&&◌, leb, ltb, cond, Option, Some, None, is_some, unwrap_or, IfSome, IsTrue, inl, inr, List, [], ◌∷◌, ◌++◌, length, get_or, map, refl, sym, ap, ◌∙◌, arith, rules}
 use Rattle.std.proofs.Math.ListN.{get_or-eq_default}
 use Rattle.std.proofs.lemmas.Bool.{and_from, and_left, and_right, cases_lt, eq-eqb, eqb-true, false≢true, ne_eqb}
 use Rattle.std.proofs.lemmas.Bool.Decides.{eqb_tells}
@@ -15,18 +15,14 @@ use Rattle.key_compile.specs.Pairs.{pairs_by, pairs_in}
 use Rattle.key_compile.specs.Strings.{last_text, string_in, text_by}
 use Rattle.key_compile.specs.Union.{is_declared, union_of}
 use Rattle.key_dump.specs.Dump.{rows_from}
-use Rattle.key_dump.proofs.Adding.{flat_map-append}
+use Rattle.std.proofs.lemmas.Grind.{flat_map-append}
 use Rattle.key_dump.proofs.DumpSays.{entry_tellings, string_tellings, table_tellings, tables_telling}
 use Rattle.key_dump.proofs.DumpTables.{AreDumped, any_dumped, items_any, tables_any}
 use Rattle.key_dump.proofs.Tellings.{last_action_last, last_append, last_at, last_by, no_last, no_pairs, or_none, pairs_tellings, tellings_of, text_last}
 
 -- lines of entries that give nothing
 entry_last : {X : Type 0} (f : Telling → Option X) (t c : ℕ) (a : Act) → f (one t c a) ≡ None → last_by f (entry_tellings t c a) ≡ None
-entry_last f t c a e = by_test (a.kind == HOLE)
-  where
-    by_test : (b : Bool) → last_by f (cond b [] (one t c a ∷ [])) ≡ None
-    by_test true = refl
-    by_test false = e
+entry_last f t c a e = search (rules, last_by)
 
 table_last : {X : Type 0} (f : Telling → Option X) (t : ℕ) (m : Option (List Act)) → ((c : ℕ) (a : Act) → f (one t c a) ≡ None) → last_by f (table_tellings t m) ≡ None
 table_last f t None each = refl
@@ -47,10 +43,7 @@ pairs_last f (pair ∷ pairs) each =
 
 last_three : {X : Type 0} (f : Telling → Option X) (first : Telling) (us vs ws : List Telling) → f first ≡ None → last_by f ws ≡ None → last_by f (first ∷ (us ++ (vs ++ ws))) ≡ option_or (last_by f vs) (last_by f us)
 last_three f first us vs ws p q =
-    ap (option_or (last_by f (us ++ (vs ++ ws)))) p
-    ∙ or_none (last_by f (us ++ (vs ++ ws)))
-    ∙ last_append f us (vs ++ ws)
-    ∙ ap (λ a. option_or a (last_by f us)) (last_append f vs ws ∙ ap (λ a. option_or a (last_by f vs)) q)
+    grind (arith, last_by, or_none, last_append)
 
 gives_other : (union : List ℕ) (t c u d : ℕ) (a : Act) → (t == u && c == d) ≡ false → gives union (one u d a) t c ≡ None
 gives_other union t c u d a e = ap (λ b. cond b (Some a) None) e
@@ -74,16 +67,11 @@ decided_is union lines tables t c map are low small e full =
 
 -- an action of this kind is the hole
 hole_value : (v : ℕ) → is_action HOLE v ≡ true → v ≡ 0
-hole_value v e = elim (eqb_tells v 0) [
-  | inl zero_value ↦ zero_value.1
-  | inr other ↦ (let no : is_action HOLE v ≡ false = rw other.0 refl in absurd (false≢true (sym no ∙ e)))
-]
+hole_value v e = grind (arith, eqb_tells, false≢true)
 
 hole_is : (a : Act) → IsTrue (is_action a.kind a.value) → (a.kind == HOLE) ≡ true → a ≡ hole
 hole_is a action e =
-    let kind : a.kind ≡ HOLE = eqb-true a.kind HOLE e in
-    let value : a.value ≡ 0 = hole_value a.value (ap (λ k. is_action k a.value) (sym kind) ∙ action) in
-    ap (λ k. act k a.value) kind ∙ ap (act HOLE) value
+    grind (arith, eqb-true, hole_value)
 
 entry_back : (union : List ℕ) (t c : ℕ) (a : Act) → IsTrue (is_action a.kind a.value) → unwrap_or (last_by (λ telling. gives union telling t c) (entry_tellings t c a)) hole ≡ a
 entry_back union t c a action = by_test (a.kind == HOLE) refl
@@ -108,11 +96,7 @@ entry_is lines tables t c map are low small e is =
 
 pub entries_are : (lines : List KeymapLine) (tables : Tables) (t c : ℕ) → AreDumped lines tables → t < 256 → c < 256 → entry_of tables t c ≡ cond (exists_in tables t) (Some (entry_in lines t c)) None
 entries_are lines tables t c are low small =
-    by_map (map_of tables t) refl (are.whole.maps t None (let tall = are.whole.tall in omega (arith, tall, low)))
-  where
-    by_map : (m : Option (List Act)) → map_of tables t ≡ m → IfSome m IsMap → option_map (λ map. get_or map c hole) m ≡ cond (is_some m) (Some (entry_in lines t c)) None
-    by_map None e is = refl
-    by_map (Some map) e is = ap Some (sym (entry_is lines tables t c map are low small e is))
+    grind (arith, is_some, entry_is)
 
 -- the string that the lines give a function key
 texts_are : (lines : List KeymapLine) (tables : Tables) (i : ℕ) → AreDumped lines tables → last_text lines i ≡ last_by (λ telling. text_by telling i) (rows_from string_tellings 0 tables.funcs)

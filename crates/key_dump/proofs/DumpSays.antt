@@ -1,5 +1,5 @@
 -- The rows of a dump are read as its lines.
-use Rattle.std.proofs.Common.{◌≡◌, ℕ, suc, ◌+◌, ◌<◌, ◌≤◌, Bool, true, false, ◌==◌, ◌||◌, ltb, cond, Option, Some, None, is_some, IfSome, IsTrue, inl, inr, List, [], ◌∷◌, ◌++◌, codes, decimal, filter, length, get_or, map, refl, sym, ap, ◌∙◌, arith}
+use Rattle.std.proofs.Common.{◌≡◌, ℕ, suc, ◌+◌, ◌<◌, ◌≤◌, Bool, true, false, ◌==◌, ◌||◌, ltb, cond, Option, Some, None, is_some, IfSome, IsTrue, inl, inr, List, [], ◌∷◌, ◌++◌, codes, decimal, filter, length, get_or, map, refl, sym, ap, ◌∙◌, arith, rules}
 use Rattle.std.proofs.lemmas.Bool.{and_from, and_parts, cases_eq, false≢true}
 use Rattle.std.proofs.lemmas.List.Folds.{list_any_at}
 use Rattle.std.proofs.lemmas.List.FromFn.{get_or-range_with_len, length-range_with_len}
@@ -48,17 +48,7 @@ abbrev pub dump_tellings : Tables → List Telling
 dump_tellings tables = tables_telling tables ∷ item_tellings tables
 
 entry_say : NamesAreTheirOwn → (t c : ℕ) (a : Act) → t < 256 → c < 256 → IsTrue (is_action a.kind a.value) → (c ≡ 0 → a ≡ hole) → AllSay (entry_rows t c a) (entry_tellings t c a)
-entry_say own t c a low small action no_key = by_test (a.kind == HOLE) refl
-  where
-    some_code : (a.kind == HOLE) ≡ false → 1 ≤ c
-    some_code e = elim (cases_eq c 0) [
-      | inl none ↦ absurd (false≢true (sym e ∙ ap (λ (x : Act). x.kind == HOLE) (no_key none)))
-      | inr some ↦ omega arith
-    ]
-
-    by_test : (b : Bool) → (a.kind == HOLE) ≡ b → AllSay (cond b [] (entry_words t c a ∷ [])) (cond b [] (one t c a ∷ []))
-    by_test true e = tt
-    by_test false e = (entry_says own t c a low (some_code e) small action, tt)
+entry_say own t c a low small action no_key = grind (arith, cases_eq, false≢true, entry_says)
 
 table_say : NamesAreTheirOwn → (t : ℕ) (m : Option (List Act)) → t < 256 → IfSome m IsMap → AllSay (table_rows t m) (table_tellings t m)
 table_say own t None low is = tt

@@ -1,5 +1,5 @@
 -- The tables of the lines of a dump.
-use Rattle.std.proofs.Common.{◌≡◌, ℕ, ◌+◌, ◌<◌, Bool, true, false, ◌==◌, ◌&&◌, ◌||◌, leb, cond, Option, Some, None, is_some, List, [], ◌∷◌, ◌++◌, filter, get_or, map, refl, sym, ap, ◌∙◌, arith}
+use Rattle.std.proofs.Common.{◌≡◌, ℕ, ◌+◌, ◌<◌, Bool, true, false, ◌==◌, ◌&&◌, ◌||◌, leb, cond, Option, Some, None, is_some, List, [], ◌∷◌, ◌++◌, filter, get_or, map, refl, sym, ap, ◌∙◌, arith, rules}
 use Rattle.std.proofs.lemmas.Bool.{and_from, and_left, and_parts, and_right, false≢true, le-leb, leb-true, ne_eqb, or_from}
 use Rattle.std.proofs.lemmas.List.Folds.{list_any-append, list_any_at}
 use Rattle.std.proofs.lemmas.List.FromFn.{get_or-map-range_with_len, get_or-range_with_len, length-range_with_len}
@@ -18,11 +18,7 @@ use Rattle.key_dump.proofs.Tellings.{any_tellings, no_any, tellings_of}
 
 -- a line of an entry, where it is there
 entry_any : (test : Telling → Bool) (t c : ℕ) (a : Act) → test (one t c a) ≡ false → list_any test (entry_tellings t c a) ≡ false
-entry_any test t c a e = by_test (a.kind == HOLE)
-  where
-    by_test : (b : Bool) → list_any test (cond b [] (one t c a ∷ [])) ≡ false
-    by_test true = refl
-    by_test false = or_from (test (one t c a)) false e refl
+entry_any test t c a e = search (rules, or_from)
 
 table_any : (test : Telling → Bool) (t : ℕ) (m : Option (List Act)) → ((c : ℕ) (a : Act) → test (one t c a) ≡ false) → list_any test (table_tellings t m) ≡ false
 table_any test t None each = refl
@@ -43,14 +39,11 @@ pairs_any test (pair ∷ pairs) each = or_from (test (compose pair)) (list_any t
 -- three parts of what is told
 any_three : (test : Telling → Bool) (us vs ws : List Telling) → list_any test us ≡ false → list_any test vs ≡ false → list_any test ws ≡ false → list_any test (us ++ (vs ++ ws)) ≡ false
 any_three test us vs ws p q r =
-    list_any-append test us (vs ++ ws)
-    ∙ or_from (list_any test us) (list_any test (vs ++ ws)) p
-    (list_any-append test vs ws ∙ or_from (list_any test vs) (list_any test ws) q r)
+    grind (arith, list_any-append, or_from)
 
 pub items_any : (test : Telling → Bool) (tables : Tables) → list_any test (rows_from table_tellings 0 tables.maps) ≡ false → ((i : ℕ) (text : List ℕ) → test (string i text) ≡ false) → ((pair : Pair) → test (compose pair) ≡ false) → list_any test (item_tellings tables) ≡ false
 items_any test tables entries strings pairs =
-    any_three test (rows_from table_tellings 0 tables.maps) (rows_from string_tellings 0 tables.funcs) (map compose tables.pairs)
-    entries (strings_any test tables.funcs strings) (pairs_any test tables.pairs pairs)
+    grind (arith, any_three, table_tellings, string_tellings, strings_any, pairs_any)
 
 pub tables_any : (test : Telling → Bool) (tables : Tables) → ((t c : ℕ) (a : Act) → test (one t c a) ≡ false) → list_any test (rows_from table_tellings 0 tables.maps) ≡ false
 tables_any test tables each =

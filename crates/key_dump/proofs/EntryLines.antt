@@ -1,5 +1,5 @@
 -- The row of an entry is read as its line.
-use Rattle.std.proofs.Common.{◌≡◌, ℕ, zero, suc, ◌+◌, ◌/◌, ◌%◌, ◌<◌, ◌≤◌, Bool, true, false, ◌==◌, ◌&&◌, ◌||◌, not, cond, Option, Some, None, Ok, Err, IsTrue, List, [], ◌∷◌, ◌++◌, bit_or, codes, decimal, filter, length, map, refl, ap, ◌∙◌, subst, arith, length-append}
+use Rattle.std.proofs.Common.{◌≡◌, ℕ, zero, suc, ◌+◌, ◌/◌, ◌%◌, ◌<◌, ◌≤◌, Bool, true, false, ◌==◌, ◌&&◌, ◌||◌, not, cond, Option, Some, None, Ok, Err, IsTrue, List, [], ◌∷◌, ◌++◌, bit_or, codes, decimal, filter, length, map, refl, ap, ◌∙◌, subst, arith, length-append, rules}
 use Rattle.std.proofs.lemmas.Bool.{agree_below, agree_below_at, and_from, and_parts, eqb-true, not-true}
 use Rattle.std.proofs.lemmas.List.Folds.{list_all-append}
 use Rattle.std.specs.List.{join_with_byte, list_all}
@@ -29,11 +29,7 @@ modifiers_of t =
     (filter (λ m. t / m.weight % 2 == 1) modifiers)
 
 words_of : (t : ℕ) → map (λ m. m.word) (modifiers_of t) ≡ modifier_words t
-words_of t = by_test (t == 0)
-  where
-    by_test : (b : Bool) → map (λ m. m.word) (cond b (modifier 0 (codes "plain") ∷ []) (filter (λ m. t / m.weight % 2 == 1) modifiers)) ≡ cond b (codes "plain" ∷ []) (map (λ m. m.word) (filter (λ m. t / m.weight % 2 == 1) modifiers))
-    by_test true = refl
-    by_test false = refl
+words_of t = grind (arith, codes)
 
 abbrev pub is_weight : ℕ → Option ℕ → Bool
 is_weight n None = false
@@ -68,13 +64,7 @@ falls false false false false false false false false A B C D E F G H Z none = r
 
 modified_first : (text : List ℕ) (end : Place) (w : List Placed × List Placed) → is_keyword text ≡ false → line_with text end w ≡ modified_by end w (weight_by text)
 modified_first text end w none =
-    falls (str_eq_ignore_ascii_case text (codes "keymaps")) (str_eq_ignore_ascii_case text (codes "keycode"))
-    (str_eq_ignore_ascii_case text (codes "string")) (str_eq_ignore_ascii_case text (codes "compose"))
-    (str_eq_ignore_ascii_case text (codes "include")) (str_eq_ignore_ascii_case text (codes "charset"))
-    (str_eq_ignore_ascii_case text (codes "alt_is_meta")) (str_eq_ignore_ascii_case text (codes "strings"))
-    (keymaps_line end w.1) (keys_line end w.1) (string_line end w.1) (compose_line end w.1)
-    (include_line end w.1) (charset_line end w.1) (alt_is_meta_line w.1) (usual_strings_line end w.1)
-    (modified_by end w (weight_by text)) none
+    grind (arith, falls, codes, weight_by)
 
 -- a modifier's word weighs what the modifier weighs
 abbrev pub is_good : Modifier → Bool
@@ -87,13 +77,7 @@ pub record IsGood (m : Modifier) : Type 0 where
 
 good_is : (m : Modifier) → is_good m ≡ true → IsGood m
 good_is m e =
-    let parts = and_parts (is_word_text m.word) (is_weight m.weight (weight_by m.word) && not (is_keyword m.word)) e in
-    let more = and_parts (is_weight m.weight (weight_by m.word)) (not (is_keyword m.word)) parts.1 in
-    record {
-      word = parts.0;
-      weighs = is_weight_some m.weight (weight_by m.word) more.0;
-      other = not-true (is_keyword m.word) more.1;
-    }
+    search (rules, and_parts, is_word_text, weight_by, is_weight_some, not-true)
 
 -- the table of modifiers together, over one
 abbrev pub together : ℕ → List Modifier → ℕ

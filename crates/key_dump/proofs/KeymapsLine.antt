@@ -1,5 +1,5 @@
 -- The row of the tables is read as their line.
-use Rattle.std.proofs.Common.{◌≡◌, ℕ, suc, ◌+◌, ◌<◌, Bool, true, false, ◌==◌, not, ltb, cond, Ok, List, [], ◌∷◌, ◌++◌, codes, decimal, length, map, refl, ap, ◌∙◌, drop, arith, length-append}
+use Rattle.std.proofs.Common.{◌≡◌, ℕ, suc, ◌+◌, ◌<◌, Bool, true, false, ◌==◌, not, ltb, cond, Ok, List, [], ◌∷◌, ◌++◌, codes, decimal, length, map, refl, ap, ◌∙◌, drop, arith, length-append, rules}
 use Rattle.std.proofs.Math.Seq.{take-length}
 use Rattle.std.proofs.lemmas.Bool.{and_from, and_parts, eq-eqb, ltb-true}
 use Rattle.std.proofs.lemmas.Bool.Decides.{nat_tests}
@@ -34,15 +34,13 @@ pieces_one : (text : List ℕ) → list_all is_digit text ≡ true → pieces te
 pieces_one [] e = refl
 pieces_one (b ∷ bs) e =
     let parts = and_parts (is_digit b) (list_all is_digit bs) e in
-    ap (λ t. cond t ([] ∷ pieces bs) (with_byte b (pieces bs))) (digit_no_comma b parts.0)
-    ∙ ap (with_byte b) (pieces_one bs parts.1)
+    cc (digit_no_comma b parts.0, pieces_one bs parts.1)
 
 pieces_more : (text rest : List ℕ) → list_all is_digit text ≡ true → pieces (text ++ comma ∷ rest) ≡ text ∷ pieces rest
 pieces_more [] rest e = refl
 pieces_more (b ∷ bs) rest e =
     let parts = and_parts (is_digit b) (list_all is_digit bs) e in
-    ap (λ t. cond t ([] ∷ pieces (bs ++ comma ∷ rest)) (with_byte b (pieces (bs ++ comma ∷ rest)))) (digit_no_comma b parts.0)
-    ∙ ap (with_byte b) (pieces_more bs rest parts.1)
+    cc (digit_no_comma b parts.0, pieces_more bs rest parts.1)
 
 -- numbers below 256
 abbrev pub are_small : List ℕ → Bool
@@ -103,9 +101,7 @@ some_digit (b ∷ bs) e = omega arith
 some_joined : (n : ℕ) (ns : List ℕ) → n < 256 → 0 < length (join_with_byte 0x2C (map decimal (n ∷ ns)))
 some_joined n [] h = some_digit (decimal n) (decimal_word n h)
 some_joined n (m ∷ ns) h =
-    let some = some_digit (decimal n) (decimal_word n h) in
-    let both = length-append (decimal n) (0x2C ∷ join_with_byte 0x2C (map decimal (m ∷ ns))) in
-    omega arith
+    grind (arith, some_digit, decimal, decimal_word, length-append)
 
 joined_word : (n : ℕ) (ns : List ℕ) → are_small (n ∷ ns) ≡ true → is_word_text (join_with_byte 0x2C (map decimal (n ∷ ns))) ≡ true
 joined_word n ns e =
@@ -118,8 +114,7 @@ keymaps_by end items w left marks e1 e2 e3 = rw (e1, e2, e3) refl
 
 tables_are : (word : List Placed) (n : ℕ) (ns : List ℕ) (text : List ℕ) → are_small (n ∷ ns) ≡ true → text ≡ join_with_byte 0x2C (map decimal (n ∷ ns)) → tables_in word text ≡ Ok (table_marks (map only (n ∷ ns)))
 tables_are word n ns text small e =
-    ap (λ ps. ranges_of word ps >>= λ ranges. Ok (table_marks ranges)) (ap pieces e ∙ pieces_join n ns small)
-    ∙ ap (λ read. read >>= λ ranges. Ok (table_marks ranges)) (ranges_are word (n ∷ ns) small)
+    cc (pieces_join n ns small, ranges_are word (n ∷ ns) small)
 
 -- the row of some tables
 pub keymaps_says : (n : ℕ) (ns : List ℕ) → are_small (n ∷ ns) ≡ true → Says (join_with_byte 0x20 (codes "keymaps" ∷ join_with_byte 0x2C (map decimal (n ∷ ns)) ∷ [])) (keymaps (table_marks (map only (n ∷ ns))))

@@ -1,5 +1,5 @@
 -- Names, code points and numbers are words.
-use Rattle.std.proofs.Common.{◌≡◌, ℕ, ◌/◌, ◌%◌, ◌<◌, Bool, true, false, ◌==◌, ◌&&◌, leb, cond, Option, Some, None, List, [], ◌∷◌, ◌++◌, codes, decimal, find, unwrap_or, refl, ap, arith}
+use Rattle.std.proofs.Common.{◌≡◌, ℕ, ◌/◌, ◌%◌, ◌<◌, Bool, true, false, ◌==◌, ◌&&◌, leb, cond, Option, Some, None, List, [], ◌∷◌, ◌++◌, codes, decimal, find, unwrap_or, refl, ap, arith, rules}
 use Rattle.std.proofs.lemmas.Bool.{agree_below, agree_below_at, and_from, and_parts, eqb-true}
 use Rattle.std.specs.Fmt.{digits}
 use Rattle.std.specs.List.{list_all}
@@ -17,20 +17,13 @@ hex_digit_word d h = agree_below_at (λ d. is_word_byte (hex_digit d)) (λ d. tr
 
 hex4_words : (n : ℕ) → list_all is_word_byte (hex4 n) ≡ true
 hex4_words n =
-    and_from (is_word_byte (hex_digit (n / 4096 % 16))) _ (hex_digit_word (n / 4096 % 16) (omega arith))
-    (and_from (is_word_byte (hex_digit (n / 256 % 16))) _ (hex_digit_word (n / 256 % 16) (omega arith))
-    (and_from (is_word_byte (hex_digit (n / 16 % 16))) _ (hex_digit_word (n / 16 % 16) (omega arith))
-    (and_from (is_word_byte (hex_digit (n % 16))) true (hex_digit_word (n % 16) (omega arith)) refl)))
+    search (rules, and_from, is_word_byte, hex_digit_word)
 
 pub code_point_word : (n : ℕ) → is_word_text (code_point n) ≡ true
 code_point_word n = hex4_words n
 
 code_name_word : (a : Act) → is_word_text (code_name a) ≡ true
-code_name_word a = by_kind (a.kind == LETTER)
-  where
-    by_kind : (b : Bool) → is_word_text (cond b (codes "+U+") (codes "U+") ++ hex4 a.value) ≡ true
-    by_kind true = hex4_words a.value
-    by_kind false = hex4_words a.value
+code_name_word a = search (rules, is_word_text, codes, hex4_words)
 
 unfoldable are_words : List Symbol → Bool
 are_words rows = list_all (λ s. is_word_text s.name) rows

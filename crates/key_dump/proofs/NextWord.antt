@@ -1,5 +1,5 @@
 -- The next word of a row, by the row's bytes.
-use Rattle.std.proofs.Common.{◌≡◌, ◌≢◌, ℕ, zero, suc, ◌+◌, ◌≤◌, Bool, true, false, ◌==◌, ◌&&◌, not, leb, cond, Option, Some, None, Ok, Err, List, [], ◌∷◌, ◌++◌, drop, length, take, refl, sym, ap, ◌∙◌, subst, arith}
+use Rattle.std.proofs.Common.{◌≡◌, ◌≢◌, ℕ, zero, suc, ◌+◌, ◌≤◌, Bool, true, false, ◌==◌, ◌&&◌, not, leb, cond, Option, Some, None, Ok, Err, List, [], ◌∷◌, ◌++◌, drop, length, take, refl, sym, ap, ◌∙◌, subst, arith, rules}
 use Rattle.std.proofs.Math.Seq.{drop-append_seam, take-append_seam}
 use Rattle.std.proofs.lemmas.Bool.{and_from, and_parts, eq-eqb, eqb-true, leb-true, ne_eqb}
 use Rattle.std.proofs.lemmas.Bool.Decides.{nat_tests}
@@ -36,12 +36,7 @@ word_byte_low b e = leb-true 0x28 b (and_parts (leb 0x28 b) (leb b 0x7E) (and_pa
 
 pub word_byte_seen : (b : ℕ) → is_word_byte b ≡ true → is_seen b ≡ true
 word_byte_seen b e =
-    let low = word_byte_low b e in
-    let parts = and_parts (leb 0x28 b) (leb b 0x7E) (and_parts (leb 0x28 b && leb b 0x7E) (not (b == 0x5C)) e).0 in
-    seen b low parts.1
-  where
-    seen : (b : ℕ) → 0x28 ≤ b → leb b 0x7E ≡ true → is_seen b ≡ true
-    seen b low high = grind (arith, nat_tests)
+    search (rules, word_byte_low, and_parts, nat_tests)
 
 pub all_seen : (text : List ℕ) → list_all is_word_byte text ≡ true → list_all is_seen text ≡ true
 all_seen [] e = refl
@@ -52,8 +47,7 @@ all_seen (b ∷ bs) e =
 pub seen_ascii : (text : List ℕ) → list_all is_seen text ≡ true → IsAscii text
 seen_ascii [] e i = omega arith
 seen_ascii (b ∷ bs) e zero =
-    let parts = and_parts (is_seen b) (list_all is_seen bs) e in
-    let high = leb-true b 0x7E (and_parts (leb 0x20 b) (leb b 0x7E) parts.0).1 in omega arith
+    search (rules, and_parts, leb-true)
 seen_ascii (b ∷ bs) e (suc i) = seen_ascii bs (and_parts (is_seen b) (list_all is_seen bs) e).1 i
 
 is_bare_from : (b : ℕ) → 0x28 ≤ b → is_bare b ≡ true
@@ -97,10 +91,7 @@ pub record WordIs (read : Option (List Placed × List Placed)) (text rest : List
 whole_is : (word left : List Placed) (text : List ℕ) → bytes word ≡ text → IsAscii text → whole (word, left) ≡ Ok (word, left)
 unfolding whole
 whole_is word left text spells ascii =
-    let all : utf8_valid_len (bytes word) ≡ length word =
-    ap utf8_valid_len spells ∙ utf8_valid_len-IsUtf8 text (IsUtf8-from_ascii text ascii) ∙ ap length (sym spells) ∙ length-bytes word in
-    ap (λ valid. cond (valid == length word) (Ok (word, left)) (Err (fault BAD_TEXT (nth_place word valid)))) all
-    ∙ ap (λ t. cond t (Ok (word, left)) (Err (fault BAD_TEXT (nth_place word (length word))))) (eq-eqb (length word) (length word) refl)
+    grind (arith, utf8_valid_len-IsUtf8, IsUtf8-from_ascii, length-bytes, eq-eqb)
 
 -- a word of this length begins the items
 pub word_in_is : (items : List Placed) (text rest : List ℕ) → bytes items ≡ text ++ rest → word_len items ≡ length text → length text ≢ 0 → IsAscii text → WordIs (word_in items) text rest
@@ -112,8 +103,7 @@ word_in_is items text rest e len some ascii =
       word = take n items;
       left = drop n items;
       found =
-          ap (λ m. cond (m == 0) None (Some (take m items, drop m items))) len
-          ∙ ap (λ t. cond t None (Some (take n items, drop n items))) (ne_eqb n 0 some);
+          cc (ne_eqb n 0 some);
       good = whole_is (take n items) (drop n items) text spelled ascii;
       spells = spelled;
       leaves = left_over;
@@ -122,9 +112,7 @@ word_in_is items text rest e len some ascii =
 no_quote : (items : List Placed) (b : ℕ) (bs : List ℕ) → bytes items ≡ b ∷ bs → 0x28 ≤ b → quoted_len items ≡ 0
 no_quote [] b bs e h = absurd (cc)
 no_quote (p ∷ ps) b bs e h =
-    let same : p.byte ≡ b = cc in
-    let other : is_quote p.byte ≡ false = ap is_quote same ∙ is_quote_from b h in
-    rw other refl
+    grind (arith, is_quote_from)
 
 plain_len : (items : List Placed) (text rest : List ℕ) → bytes items ≡ text ++ rest → is_word_text text ≡ true → is_behind rest ≡ true → word_len items ≡ length text
 plain_len items [] rest e word behind = absurd (cc)
@@ -145,8 +133,7 @@ word_text_all (b ∷ bs) e = e
 
 plain_in : (items : List Placed) (text rest : List ℕ) → bytes items ≡ text ++ rest → is_word_text text ≡ true → is_behind rest ≡ true → WordIs (word_in items) text rest
 plain_in items text rest e word behind =
-    word_in_is items text rest e (plain_len items text rest e word behind) (word_text_some text word)
-    (seen_ascii text (all_seen text (word_text_all text word)))
+    search (rules, word_in_is, plain_len, word_text_some, seen_ascii, all_seen, word_text_all)
 
 -- no blank stands before a word
 no_blank : (items : List Placed) (b : ℕ) (bs : List ℕ) → bytes items ≡ b ∷ bs → is_blank b ≡ false → prefix_len (λ p. is_blank p.byte) items ≡ 0
@@ -159,28 +146,17 @@ word_at_here items b bs e seen = ap (λ n. word_in (drop n items)) (no_blank ite
 pub word_at_behind : (p : Placed) (ps : List Placed) (b : ℕ) (bs : List ℕ) → p.byte ≡ 0x20 → bytes ps ≡ b ∷ bs → is_blank b ≡ false → word_at (p ∷ ps) ≡ word_in ps
 unfolding word_at
 word_at_behind p ps b bs blank e seen =
-    let one : prefix_len (λ (q : Placed). is_blank q.byte) (p ∷ ps) ≡ 1 =
-    ap (λ c. cond (is_blank c) (1 + prefix_len (λ (q : Placed). is_blank q.byte) ps) 0) blank
-    ∙ ap (λ n. 1 + n) (no_blank ps b bs e seen) in
-    ap (λ n. word_in (drop n (p ∷ ps))) one
+    cc (no_blank ps b bs e seen)
 
 -- the word that begins the items
 pub first_word : (items : List Placed) (text rest : List ℕ) → bytes items ≡ text ++ rest → is_word_text text ≡ true → is_behind rest ≡ true → WordIs (word_at items) text rest
 first_word items [] rest e word behind = absurd (cc)
 first_word items (b ∷ bs) rest e word behind =
-    let low = word_byte_low b (and_parts (is_word_byte b) (list_all is_word_byte bs) word).0 in
-    subst (λ (read : Option (List Placed × List Placed)). WordIs read (b ∷ bs) rest)
-    (sym (word_at_here items b (bs ++ rest) e (is_blank_from b low)))
-    (plain_in items (b ∷ bs) rest e word behind)
+    grind (arith, word_byte_low, and_parts, word_at_here, is_blank_from, plain_in)
 
 -- the word behind a blank
 pub next_word : (items : List Placed) (text rest : List ℕ) → bytes items ≡ 0x20 ∷ (text ++ rest) → is_word_text text ≡ true → is_behind rest ≡ true → WordIs (word_at items) text rest
 next_word [] text rest e word behind = absurd (cc)
 next_word (p ∷ ps) [] rest e word behind = absurd (cc)
 next_word (p ∷ ps) (b ∷ bs) rest e word behind =
-    let low = word_byte_low b (and_parts (is_word_byte b) (list_all is_word_byte bs) word).0 in
-    let blank : p.byte ≡ 0x20 = cc in
-    let more : bytes ps ≡ b ∷ (bs ++ rest) = cc in
-    subst (λ (read : Option (List Placed × List Placed)). WordIs read (b ∷ bs) rest)
-    (sym (word_at_behind p ps b (bs ++ rest) blank more (is_blank_from b low)))
-    (plain_in ps (b ∷ bs) rest more word behind)
+    grind (arith, word_byte_low, and_parts, word_at_behind, is_blank_from, plain_in)

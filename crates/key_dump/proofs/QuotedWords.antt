@@ -1,5 +1,5 @@
 -- A text between quotes is a word, and stands for the text.
-use Rattle.std.proofs.Common.{◌≡◌, ℕ, zero, suc, ◌+◌, ◌/◌, ◌%◌, ◌<◌, ◌≤◌, Bool, true, false, ◌==◌, ◌&&◌, not, leb, cond, Option, Some, None, All, List, [], ◌∷◌, ◌++◌, append_assoc, codes, drop, length, take, refl, sym, ap, ◌∙◌, subst, arith, length-append}
+use Rattle.std.proofs.Common.{◌≡◌, ℕ, zero, suc, ◌+◌, ◌/◌, ◌%◌, ◌<◌, ◌≤◌, Bool, true, false, ◌==◌, ◌&&◌, not, leb, cond, Option, Some, None, All, List, [], ◌∷◌, ◌++◌, append_assoc, codes, drop, length, take, refl, sym, ap, ◌∙◌, subst, arith, length-append, rules}
 use Rattle.std.proofs.Math.Seq.{drop-append_seam, take-append_seam}
 use Rattle.std.proofs.lemmas.Bool.{agree_below, agree_below_at, and_from, and_parts, eq-eqb, eqb-true, le-leb, not-true}
 use Rattle.std.proofs.lemmas.List.{drop-map}
@@ -47,14 +47,7 @@ digits_computed = refl
 
 digits_of : (b : ℕ) → b < 256 → AreDigits b (0x30 + b / 64) (0x30 + b / 8 % 8) (0x30 + b % 8)
 digits_of b h =
-    let x = 0x30 + b / 64 in
-    let y = 0x30 + b / 8 % 8 in
-    let z = 0x30 + b % 8 in
-    let all = agree_below_at (λ b. is_digit (0x30 + b / 64) && (is_digit (0x30 + b / 8 % 8) && (is_digit (0x30 + b % 8) && octal_value ((0x30 + b / 64) ∷ (0x30 + b / 8 % 8) ∷ (0x30 + b % 8) ∷ []) == b))) (λ b. true) 256 b digits_computed h in
-    let one = and_parts (is_digit x) (is_digit y && (is_digit z && octal_value (x ∷ y ∷ z ∷ []) == b)) all in
-    let two = and_parts (is_digit y) (is_digit z && octal_value (x ∷ y ∷ z ∷ []) == b) one.1 in
-    let three = and_parts (is_digit z) (octal_value (x ∷ y ∷ z ∷ []) == b) two.1 in
-    record { first = one.0; second = two.0; third = three.0; value = eqb-true (octal_value (x ∷ y ∷ z ∷ [])) b three.1 }
+    search (rules, agree_below_at, digits_computed, and_parts, eqb-true)
 
 digit_octal : (b : ℕ) → is_digit b ≡ true → is_octal b ≡ true
 digit_octal b e = (and_parts (is_octal b) (not (b == 0x22) && not (b == backslash)) e).0
@@ -67,8 +60,7 @@ digit_no_backslash b e = not-true (b == backslash) (and_parts (not (b == 0x22)) 
 
 plain_no_quote : (b : ℕ) → is_plain b ≡ true → (b == 0x22) ≡ false
 plain_no_quote b e =
-    let low = and_parts (leb 0x20 b && leb b 0x7E && not (b == 0x22)) (not (b == 0x5C)) e in
-    not-true (b == 0x22) (and_parts (leb 0x20 b && leb b 0x7E) (not (b == 0x22)) low.0).1
+    search (rules, and_parts, not-true)
 
 plain_no_backslash : (b : ℕ) → is_plain b ≡ true → (b == backslash) ≡ false
 plain_no_backslash b e =
@@ -106,14 +98,7 @@ close_inner (b ∷ bs) rest are =
 escape_read : (b : ℕ) (x y z : ℕ) (rest : List ℕ) → AreDigits b x y z → b < 256 → escape_in (x ∷ y ∷ z ∷ rest) ≡ Some (b, 3)
 unfolding escape_in
 escape_read b x y z rest are h =
-    let text = x ∷ y ∷ z ∷ rest in
-    let first = digit_octal x are.first in
-    let second = digit_octal y are.second in
-    let third = digit_octal z are.third in
-    let len : octal_len text ≡ 3 = rw (first, second, third) refl in
-    ap (λ n. cond (n == 0) (letter_escape text) (quoted_texts.octal_escape (take n text))) len
-    ∙ ap (λ v. cond (leb v 255) (Some (v, 3)) None) are.value
-    ∙ ap (λ t. cond t (Some (b, 3)) None) (le-leb b 255 (omega arith))
+    cc (digit_octal x are.first, digit_octal y are.second, digit_octal z are.third, are.value, le-leb b 255 (omega arith))
 
 unescaped_none : (n : ℕ) → unescaped_bytes n [] ≡ Some []
 unescaped_none zero = refl
@@ -164,11 +149,7 @@ inner_row (b ∷ bs) are =
     (inner_row bs (All-tail (λ b. b < 256) b bs are))
 
 pub quoted_text_row : (text : List ℕ) → AreBytes text → is_row (quoted_text text) ≡ true
-quoted_text_row text are = quote-row (inner text ++ codes "\"") (row_append (inner text) (codes "\"") (inner_row text are) refl)
-  where
-    quote-row : (row : List ℕ) → is_row row ≡ true → is_row (0x22 ∷ row) ≡ true
-    quote-row [] e = refl
-    quote-row (b ∷ bs) e = e
+quoted_text_row text are = grind (arith, codes, row_append, inner_row, is_row)
 
 row_seen : (row : List ℕ) → is_row row ≡ true → list_all is_seen row ≡ true
 row_seen [] e = refl
@@ -185,8 +166,7 @@ behind_quote text rest = append_assoc (inner text) (codes "\"") rest
 
 quoted-len : (text rest : List ℕ) (p : Placed) (ps : List Placed) → p.byte ≡ 0x22 → bytes ps ≡ inner text ++ 0x22 ∷ rest → AreBytes text → quoted_len (p ∷ ps) ≡ suc (suc (length (inner text)))
 quoted-len text rest p ps quote e are =
-    ap (λ q. cond (is_quote q) (suc (option_map_or suc (close_at q false ps) (length ps))) 0) quote
-    ∙ ap (λ close. suc (option_map_or suc close (length ps))) (closes text rest ps e are)
+    cc (closes text rest ps e are)
 
 length-quoted_text : (text : List ℕ) → length (quoted_text text) ≡ suc (suc (length (inner text)))
 length-quoted_text text = let both = length-append (inner text) (codes "\"") in omega arith
@@ -230,13 +210,5 @@ text-of (p ∷ ps) text e are =
     let more : bytes ps ≡ inner text ++ codes "\"" = cc in
     let n = length (inner text) in
     let len : (suc n == length ps) ≡ true =
-    eq-eqb (suc n) (length ps)
-    (let same = ap length more in
-    let one = length-bytes ps in
-    let both = length-append (inner text) (codes "\"") in omega arith) in
-    ap (λ b. option_and_then unescaped_whole (cond (b == 0x22) (text_before_quote ps (close_at 0x22 false ps)) None)) quote
-    ∙ ap (λ close. option_and_then unescaped_whole (text_before_quote ps close)) (closes text [] ps more are)
-    ∙ ap (λ t. option_and_then unescaped_whole (cond t (Some (take n (bytes ps))) None)) len
-    ∙ ap (λ bs. unescaped_whole (take n bs)) more
-    ∙ ap unescaped_whole (take-append_seam (inner text) (codes "\""))
-    ∙ unescaped_bytes-inner text n (length-inner text) are
+    grind (arith, eq-eqb, length-bytes, length-append, codes) in
+    grind (arith, closes, take-append_seam, codes, unescaped_bytes-inner, length-inner)

@@ -1,5 +1,5 @@
 -- The fields of a line, read by the words of its row.
-use Rattle.std.proofs.Common.{◌≡◌, ℕ, ◌<◌, ◌≤◌, true, false, leb, cond, Some, Result, Ok, Err, IsTrue, List, [], ◌∷◌, ◌++◌, append-nil, decimal, refl, sym, ap, ◌∙◌, arith}
+use Rattle.std.proofs.Common.{◌≡◌, ℕ, ◌<◌, ◌≤◌, true, false, leb, cond, Some, Result, Ok, Err, IsTrue, List, [], ◌∷◌, ◌++◌, append-nil, decimal, refl, sym, ap, ◌∙◌, arith, rules}
 use Rattle.std.proofs.lemmas.Bool.{and_from, le-leb}
 use Rattle.std.specs.List.{join_with_byte}
 use Rattle.std.specs.Str.{str_eq_ignore_ascii_case}
@@ -60,9 +60,7 @@ keyword_read text end items ws word same e =
     record {
       left = w.left;
       is =
-          ap (λ read. read >>= λ v. cond (is_word text v.0) (Ok v.1) (Err (fault UNKNOWN_WORD (spot v.0)))) (next_is UNKNOWN_WORD end items text (tail ws) w)
-          ∙ ap (λ t. cond (str_eq_ignore_ascii_case t text) (Ok w.left) (Err (fault UNKNOWN_WORD (spot w.word)))) w.spells
-          ∙ ap (λ b. cond b (Ok w.left) (Err (fault UNKNOWN_WORD (spot w.word)))) same;
+          cc (next_is UNKNOWN_WORD end items text (tail ws) w, w.spells);
       leaves = w.leaves;
     }
 
@@ -73,9 +71,7 @@ number_in_range_is low high word n h k =
 -- the number of a word
 pub number_number_in_range : (low : ℕ) (word : List Placed) (n : ℕ) (text : List ℕ) → text ≡ decimal n → low ≤ n → n < 256 → number_in_range low 255 word (number_of text) ≡ Ok n
 number_number_in_range low word n text e h k =
-    ap (λ t. number_in_range low 255 word (number_of t)) e
-    ∙ ap (number_in_range low 255 word) (decimal_number n k)
-    ∙ number_in_range_is low 255 word n h (omega arith)
+    cc (decimal_number n k, number_in_range_is low 255 word n h (omega arith))
 
 pub code_read : (end : Place) (items : List Placed) (c : ℕ) (ws : List (List ℕ)) → 1 ≤ c → c < 256 → bytes items ≡ tail (decimal c ∷ ws) → Reads (code_at end items) c ws
 unfolding code_at

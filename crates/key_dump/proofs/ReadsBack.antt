@@ -1,5 +1,5 @@
 -- A dump is read as the tables that it was made of.
-use Rattle.std.proofs.Common.{◌≡◌, false, cond, None, Some, List, ◌++◌, length, map, refl, sym, ap, ◌∙◌, subst, arith}
+use Rattle.std.proofs.Common.{◌≡◌, false, cond, None, Some, List, ◌++◌, length, map, refl, sym, ap, ◌∙◌, subst, arith, rules}
 use Rattle.key_syms.specs.Laws.{CodePointsAreTheirOwn, NamesAreTheirOwn}
 use Rattle.key_tables.specs.Tables.{Tables}
 use Rattle.key_text.specs.KeymapLine.{KeymapLine, compose}
@@ -18,16 +18,7 @@ use Rattle.key_dump.proofs.TextRows.{text_read}
 fine : (lines : List KeymapLine) (tables : Tables) → AreDumped lines tables → compile_fault lines ≡ None
 unfolding compile_fault
 fine lines tables are =
-    let n = length (union_of lines) in
-    let entries = rows_from table_tellings 0 tables.maps in
-    let strings = rows_from string_tellings 0 tables.funcs in
-    first_none n false 0 lines
-    (subst (faultless n false 0) (sym are.tell) (
-      refl,
-      quiet_first n false 0 entries (strings ++ map compose tables.pairs) (tables_any is_loud tables (λ t c a. refl))
-          (λ s. quiet_first n s 0 strings (map compose tables.pairs) (strings_any is_loud tables.funcs (λ i text. refl))
-          (λ s. pairs_few n s 0 tables.pairs (let few = are.whole.few in omega (arith, few)))),
-    ))
+    grind (arith, table_tellings, string_tellings, first_none, faultless, quiet_first, tables_any, is_loud, strings_any, pairs_few)
 
 compiled : (lines : List KeymapLine) (tables : Tables) → AreDumped lines tables → AreTablesOf lines tables
 compiled lines tables are = record {
@@ -44,9 +35,4 @@ pub dump_reads_back : NamesAreTheirOwn → CodePointsAreTheirOwn → DumpReadsBa
 dump_reads_back own points tables whole dumpable =
     let read = text_read (dump_rows tables) (dump_tellings tables) (dump_say own points tables whole dumpable) in
     let are : AreDumped read.lines tables = record { tell = read.tell; whole = whole } in
-    record {
-      lines = read.lines;
-      read = read.is;
-      fine = fine read.lines tables are;
-      compiled = compiled read.lines tables are;
-    }
+    search (rules, fine, compiled)

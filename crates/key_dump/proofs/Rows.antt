@@ -1,5 +1,5 @@
 -- The rows of a dump as texts of parts.
-use Rattle.std.proofs.Common.{◌≡◌, ℕ, ◌/◌, ◌%◌, true, false, ◌==◌, cond, List, [], ◌∷◌, ◌++◌, codes, decimal, map, append_assoc, append-nil, refl, sym, ap, ◌∙◌}
+use Rattle.std.proofs.Common.{◌≡◌, ℕ, ◌/◌, ◌%◌, true, false, ◌==◌, cond, List, [], ◌∷◌, ◌++◌, codes, decimal, map, append_assoc, append-nil, refl, sym, ap, ◌∙◌, arith}
 use Rattle.std.specs.List.{flat_map}
 use Rattle.key_syms.specs.Act.{Act, act}
 use Rattle.key_syms.specs.Names.{name_text}
@@ -8,26 +8,24 @@ use Rattle.key_tables.specs.Tables.{Tables}
 use Rattle.key_syms.specs.Kinds.{FUNCTION}
 use Rattle.key_dump.specs.Dump.{dump_of, dump_rows, entry_words, escape_of, keymaps_words, modifier_words, modifiers, pair_words, quoted_text, row_text, rows_from, string_rows, string_words, table_rows}
 use Rattle.key_dump.specs.Spaced.{blank_after_each}
-use Rattle.key_dump.proofs.Adding.{flat_map-append, four_more, join_blank_after_each, blank_after_each_each}
+use Rattle.std.proofs.lemmas.Grind.{flat_map-append}
+use Rattle.key_dump.proofs.Adding.{join_blank_after_each, blank_after_each_each}
 
 pub entry_text : (t c : ℕ) (a : Act) (name : List ℕ) → name ≡ name_text a → blank_after_each (modifier_words t) ++ (codes "keycode " ++ (decimal c ++ (codes " = " ++ (name ++ codes "\n")))) ≡ row_text (entry_words t c a)
-entry_text t c a name e =
-    ap (λ n. blank_after_each (modifier_words t) ++ (codes "keycode " ++ (decimal c ++ (codes " = " ++ (n ++ codes "\n"))))) e
-    ∙ ap (λ rest. blank_after_each (modifier_words t) ++ (codes "keycode " ++ rest)) (sym (append_assoc (decimal c) (codes " = " ++ name_text a) (codes "\n")))
-    ∙ sym (append_assoc (blank_after_each (modifier_words t)) (codes "keycode " ++ (decimal c ++ (codes " = " ++ name_text a))) (codes "\n"))
-    ∙ ap (λ words. words ++ codes "\n") (sym (join_blank_after_each (modifier_words t) (codes "keycode") (decimal c ∷ codes "=" ∷ name_text a ∷ [])))
+entry_text t c a name e = grind (arith, codes, decimal, append_assoc, join_blank_after_each)
 
 pub string_text : (i : ℕ) (text name : List ℕ) → name ≡ name_text (act FUNCTION i) → codes "string " ++ (name ++ (codes " = \"" ++ (flat_map escape_of text ++ codes "\"\n"))) ≡ row_text (string_words i text)
-string_text i text name e =
-    ap (λ n. codes "string " ++ (n ++ (codes " = \"" ++ (flat_map escape_of text ++ codes "\"\n")))) e
-    ∙ ap (λ rest. codes "string " ++ (name_text (act FUNCTION i) ++ (codes " = \"" ++ rest))) (sym (append_assoc (flat_map escape_of text) (codes "\"") (codes "\n")))
-    ∙ ap (λ rest. codes "string " ++ rest) (sym (append_assoc (name_text (act FUNCTION i)) (codes " = " ++ quoted_text text) (codes "\n")))
+string_text i text name e = grind (arith, codes, append_assoc)
 
 pub weighed_words : (t : ℕ) → (t == 0) ≡ false → cond (t / 1 % 2 == 1) (codes "shift ") [] ++ (cond (t / 2 % 2 == 1) (codes "altgr ") [] ++ (cond (t / 4 % 2 == 1) (codes "control ") [] ++ (cond (t / 8 % 2 == 1) (codes "alt ") [] ++ (cond (t / 16 % 2 == 1) (codes "shiftl ") [] ++ (cond (t / 32 % 2 == 1) (codes "shiftr ") [] ++ (cond (t / 64 % 2 == 1) (codes "ctrll ") [] ++ (cond (t / 128 % 2 == 1) (codes "ctrlr ") []))))))) ≡ blank_after_each (modifier_words t)
 weighed_words t e =
     rw e
     (ap (λ last. cond (t / 1 % 2 == 1) (codes "shift ") [] ++ (cond (t / 2 % 2 == 1) (codes "altgr ") [] ++ (cond (t / 4 % 2 == 1) (codes "control ") [] ++ (cond (t / 8 % 2 == 1) (codes "alt ") [] ++ (cond (t / 16 % 2 == 1) (codes "shiftl ") [] ++ (cond (t / 32 % 2 == 1) (codes "shiftr ") [] ++ (cond (t / 64 % 2 == 1) (codes "ctrll ") [] ++ (last)))))))) (sym (append-nil (cond (t / 128 % 2 == 1) (codes "ctrlr ") [])))
     ∙ sym (blank_after_each_each (λ m. t / m.weight % 2 == 1) modifiers))
+
+-- four texts, one behind another
+four_more : (start a b c d w x y z : List ℕ) → a ≡ start ++ w → b ≡ a ++ x → c ≡ b ++ y → d ≡ c ++ z → d ≡ start ++ (w ++ (x ++ (y ++ z)))
+four_more start a b c d w x y z p q r s = rw (s, r, q, p) (simp append_assoc)
 
 pub dump_text : (t : Tables) (start a b c d : List ℕ) (pairs : List Pair) → start ≡ [] → pairs ≡ t.pairs → a ≡ start ++ row_text (keymaps_words t) → b ≡ a ++ flat_map row_text (rows_from table_rows 0 t.maps) → c ≡ b ++ flat_map row_text (rows_from string_rows 0 t.funcs) → d ≡ c ++ flat_map row_text (map pair_words pairs) → d ≡ dump_of t
 unfolding dump_rows

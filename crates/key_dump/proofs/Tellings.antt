@@ -1,6 +1,7 @@
 -- The contents of lines, gathered item by item.
 use Rattle.std.proofs.Common.{◌≡◌, ◌≢◌, ℕ, zero, suc, ◌+◌, ◌<◌, Bool, false, ◌||◌, Option, Some, None, List, [], ◌∷◌, ◌++◌, length, get_or, map, refl, sym, ap, ◌∙◌, subst, arith}
 use Rattle.std.proofs.lemmas.Bool.{or_from}
+use Rattle.std.proofs.lemmas.Grind.{flat_map-append}
 use Rattle.std.proofs.lemmas.List.Folds.{list_any-append}
 use Rattle.std.specs.List.{flat_map, list_any}
 use Rattle.std.specs.Option.{option_or}
@@ -9,51 +10,34 @@ use Rattle.key_compile.specs.Entries.{last_action, gives}
 use Rattle.key_compile.specs.Pairs.{pairs_by, pairs_in}
 use Rattle.key_compile.specs.Strings.{last_text, text_by}
 use Rattle.key_dump.specs.Dump.{rows_from}
-use Rattle.key_dump.proofs.Adding.{flat_map-append}
 use Rattle.key_dump.proofs.TextRows.{AllSay, all_say_append}
 
--- what holds of no lines, of lines together and of each item's lines holds of all
-rows_hold : {X : Type 0} (P : List Telling → Type 0) → P [] → ((us vs : List Telling) → P us → P vs → P (us ++ vs)) → (tell : ℕ → X → List Telling) (from : ℕ) (xs : List X) (d : X) → ((j : ℕ) → j < length xs → P (tell (from + j) (get_or xs j d))) → P (rows_from tell from xs)
-rows_hold P none both tell from [] d each = none
-rows_hold {X = X} P none both tell from (x ∷ xs) d each =
-    both (tell from x) (rows_from tell (suc from) xs)
-    (subst (λ (n : ℕ). P (tell n x)) (let e : from + 0 ≡ from = omega arith in e) (each 0 (omega arith)))
-    (rows_hold P none both tell (suc from) xs d (λ j h. shifted j (each (suc j) (omega arith))))
-  where
-    shifted : (j : ℕ) → P (tell (from + suc j) (get_or xs j d)) → P (tell (suc from + j) (get_or xs j d))
-    shifted j p = subst (λ (n : ℕ). P (tell n (get_or xs j d))) (let e : from + suc j ≡ suc from + j = omega arith in e) p
+-- what holds of no rows, of rows together and of each item's rows holds of all, between two ways to give rows
+rows_hold : {X A B : Type 0} (P : List A → List B → Type 0) → P [] [] → ((us vs : List A) (ws ys : List B) → P us ws → P vs ys → P (us ++ vs) (ws ++ ys)) → (rows : ℕ → X → List A) (tell : ℕ → X → List B) (from : ℕ) (xs : List X) (d : X) → ((n j : ℕ) → n ≡ from + j → j < length xs → P (rows n (get_or xs j d)) (tell n (get_or xs j d))) → P (rows_from rows from xs) (rows_from tell from xs)
+rows_hold P none both rows tell from [] d each = none
+rows_hold P none both rows tell from (x ∷ xs) d each =
+    both (rows from x) (rows_from rows (suc from) xs) (tell from x) (rows_from tell (suc from) xs) (each from 0 (omega arith) (omega arith))
+    (rows_hold P none both rows tell (suc from) xs d (λ n j e h. each n (suc j) (omega arith) (omega arith)))
 
-from_none : {X : Type 0} (P : List Telling → Type 0) (tell : ℕ → X → List Telling) (xs : List X) (d : X) → ((j : ℕ) → j < length xs → P (tell j (get_or xs j d))) → (j : ℕ) → j < length xs → P (tell (0 + j) (get_or xs j d))
-from_none P tell xs d each j h = subst (λ (n : ℕ). P (tell n (get_or xs j d))) (let e : j ≡ 0 + j = omega arith in e) (each j h)
+all_hold : {X A B : Type 0} (P : List A → List B → Type 0) → P [] [] → ((us vs : List A) (ws ys : List B) → P us ws → P vs ys → P (us ++ vs) (ws ++ ys)) → (rows : ℕ → X → List A) (tell : ℕ → X → List B) (xs : List X) (d : X) → ((j : ℕ) → j < length xs → P (rows j (get_or xs j d)) (tell j (get_or xs j d))) → P (rows_from rows 0 xs) (rows_from tell 0 xs)
+all_hold P none both rows tell xs d each =
+    rows_hold P none both rows tell 0 xs d (λ n j e h. subst (λ (m : ℕ). P (rows m (get_or xs j d)) (tell m (get_or xs j d))) (let same : j ≡ n = omega arith in same) (each j h))
 
 -- rows of items are read as their lines
-rows_say_from : {X : Type 0} (rows : ℕ → X → List (List (List ℕ))) (tell : ℕ → X → List Telling) (from : ℕ) (xs : List X) (d : X) → ((j : ℕ) → j < length xs → AllSay (rows (from + j) (get_or xs j d)) (tell (from + j) (get_or xs j d))) → AllSay (rows_from rows from xs) (rows_from tell from xs)
-rows_say_from rows tell from [] d each = tt
-rows_say_from rows tell from (x ∷ xs) d each =
-    all_say_append (rows from x) (rows_from rows (suc from) xs) (tell from x) (rows_from tell (suc from) xs)
-    (subst (λ (n : ℕ). AllSay (rows n x) (tell n x)) (let e : from + 0 ≡ from = omega arith in e) (each 0 (omega arith)))
-    (rows_say_from rows tell (suc from) xs d (λ j h. shifted j (each (suc j) (omega arith))))
-  where
-    shifted : (j : ℕ) → AllSay (rows (from + suc j) (get_or xs j d)) (tell (from + suc j) (get_or xs j d)) → AllSay (rows (suc from + j) (get_or xs j d)) (tell (suc from + j) (get_or xs j d))
-    shifted j p = subst (λ (n : ℕ). AllSay (rows n (get_or xs j d)) (tell n (get_or xs j d))) (let e : from + suc j ≡ suc from + j = omega arith in e) p
-
 pub rows_say : {X : Type 0} (rows : ℕ → X → List (List (List ℕ))) (tell : ℕ → X → List Telling) (xs : List X) (d : X) → ((j : ℕ) → j < length xs → AllSay (rows j (get_or xs j d)) (tell j (get_or xs j d))) → AllSay (rows_from rows 0 xs) (rows_from tell 0 xs)
-rows_say rows tell xs d each =
-    rows_say_from rows tell 0 xs d (λ j h. subst (λ (n : ℕ). AllSay (rows n (get_or xs j d)) (tell n (get_or xs j d))) (let e : j ≡ 0 + j = omega arith in e) (each j h))
+rows_say = all_hold AllSay tt all_say_append
 
 -- no line passes
 pub no_any : {X : Type 0} (test : Telling → Bool) (tell : ℕ → X → List Telling) (xs : List X) (d : X) → ((j : ℕ) → j < length xs → list_any test (tell j (get_or xs j d)) ≡ false) → list_any test (rows_from tell 0 xs) ≡ false
-no_any test tell xs d each =
-    rows_hold (λ ts. list_any test ts ≡ false) refl
-    (λ us vs p q. list_any-append test us vs ∙ or_from (list_any test us) (list_any test vs) p q)
-    tell 0 xs d (from_none (λ ts. list_any test ts ≡ false) tell xs d each)
+no_any test tell =
+    all_hold (λ ts us. list_any test ts ≡ false) refl
+    (λ us vs ws ys p q. list_any-append test us vs ∙ or_from (list_any test us) (list_any test vs) p q) tell tell
 
 -- no line gives a pair
 pub no_pairs : {X : Type 0} (tell : ℕ → X → List Telling) (xs : List X) (d : X) → ((j : ℕ) → j < length xs → flat_map pairs_by (tell j (get_or xs j d)) ≡ []) → flat_map pairs_by (rows_from tell 0 xs) ≡ []
-no_pairs tell xs d each =
-    rows_hold (λ ts. flat_map pairs_by ts ≡ []) refl
-    (λ us vs p q. flat_map-append pairs_by us vs ∙ ap (λ ps. ps ++ flat_map pairs_by vs) p ∙ q)
-    tell 0 xs d (from_none (λ ts. flat_map pairs_by ts ≡ []) tell xs d each)
+no_pairs tell =
+    all_hold (λ ts us. flat_map pairs_by ts ≡ []) refl
+    (λ us vs ws ys p q. flat_map-append pairs_by us vs ∙ ap (λ ps. ps ++ flat_map pairs_by vs) p ∙ q) tell tell
 
 -- what the last line gives that gives something
 abbrev pub last_by : {X : Type 0} → (Telling → Option X) → List Telling → Option X
@@ -77,37 +61,28 @@ last_none_both f us vs p q = last_append f us vs ∙ ap (λ a. option_or a (last
 
 -- no line gives anything
 pub no_last : {X Y : Type 0} (f : Telling → Option Y) (tell : ℕ → X → List Telling) (xs : List X) (d : X) → ((j : ℕ) → j < length xs → last_by f (tell j (get_or xs j d)) ≡ None) → last_by f (rows_from tell 0 xs) ≡ None
-no_last f tell xs d each =
-    rows_hold (λ ts. last_by f ts ≡ None) refl (last_none_both f)
-    tell 0 xs d (from_none (λ ts. last_by f ts ≡ None) tell xs d each)
+no_last f tell = all_hold (λ ts us. last_by f ts ≡ None) refl (λ us vs ws ys. last_none_both f us vs) tell tell
 
-last_at_from : {X Y : Type 0} (f : Telling → Option Y) (tell : ℕ → X → List Telling) (from : ℕ) (xs : List X) (d : X) (k : ℕ) → k < length xs → ((j : ℕ) → j < length xs → j ≢ k → last_by f (tell (from + j) (get_or xs j d)) ≡ None) → last_by f (rows_from tell from xs) ≡ last_by f (tell (from + k) (get_or xs k d))
-last_at_from f tell from [] d k h others = absurd (omega arith)
-last_at_from f tell from (x ∷ xs) d zero h others =
+last_at_from : {X Y : Type 0} (f : Telling → Option Y) (tell : ℕ → X → List Telling) (from : ℕ) (xs : List X) (d : X) (k n : ℕ) → n ≡ from + k → k < length xs → ((m j : ℕ) → m ≡ from + j → j < length xs → j ≢ k → last_by f (tell m (get_or xs j d)) ≡ None) → last_by f (rows_from tell from xs) ≡ last_by f (tell n (get_or xs k d))
+last_at_from f tell from [] d k n e h others = absurd (omega arith)
+last_at_from f tell from (x ∷ xs) d zero n e h others =
     last_append f (tell from x) (rows_from tell (suc from) xs)
     ∙ ap (λ a. option_or a (last_by f (tell from x)))
-    (rows_hold (λ ts. last_by f ts ≡ None) refl (last_none_both f) tell (suc from) xs d
-    (λ j low. shifted j (others (suc j) (omega arith) (λ (e : suc j ≡ 0). omega arith))))
-    ∙ ap (λ n. last_by f (tell n x)) (let e : from ≡ from + 0 = omega arith in e)
-  where
-    shifted : (j : ℕ) → last_by f (tell (from + suc j) (get_or xs j d)) ≡ None → last_by f (tell (suc from + j) (get_or xs j d)) ≡ None
-    shifted j p = ap (λ n. last_by f (tell n (get_or xs j d))) (let e : suc from + j ≡ from + suc j = omega arith in e) ∙ p
-last_at_from f tell from (x ∷ xs) d (suc k) h others =
+    (rows_hold (λ ts us. last_by f ts ≡ None) refl (λ us vs ws ys. last_none_both f us vs) tell tell (suc from) xs d
+    (λ m j q low. others m (suc j) (omega arith) (omega arith) (λ (same : suc j ≡ 0). omega arith)))
+    ∙ ap (λ m. last_by f (tell m x)) (let same : from ≡ n = omega arith in same)
+last_at_from f tell from (x ∷ xs) d (suc k) n e h others =
     last_append f (tell from x) (rows_from tell (suc from) xs)
-    ∙ ap (option_or (last_by f (rows_from tell (suc from) xs)))
-    (ap (λ n. last_by f (tell n x)) (let e : from ≡ from + 0 = omega arith in e) ∙ others 0 (omega arith) (λ (e : 0 ≡ suc k). omega arith))
+    ∙ ap (option_or (last_by f (rows_from tell (suc from) xs))) (others from 0 (omega arith) (omega arith) (λ (same : 0 ≡ suc k). omega arith))
     ∙ or_none (last_by f (rows_from tell (suc from) xs))
-    ∙ last_at_from f tell (suc from) xs d k (omega arith) (λ j low other. shifted j (others (suc j) (omega arith) (λ (e : suc j ≡ suc k). other (omega arith))))
-    ∙ ap (λ n. last_by f (tell n (get_or xs k d))) (let e : suc from + k ≡ from + suc k = omega arith in e)
-  where
-    shifted : (j : ℕ) → last_by f (tell (from + suc j) (get_or xs j d)) ≡ None → last_by f (tell (suc from + j) (get_or xs j d)) ≡ None
-    shifted j p = ap (λ n. last_by f (tell n (get_or xs j d))) (let e : suc from + j ≡ from + suc j = omega arith in e) ∙ p
+    ∙ last_at_from f tell (suc from) xs d k n (omega arith) (omega arith)
+    (λ m j q low other. others m (suc j) (omega arith) (omega arith) (λ (same : suc j ≡ suc k). other (omega arith)))
 
 -- where only the lines of one item give something
 pub last_at : {X Y : Type 0} (f : Telling → Option Y) (tell : ℕ → X → List Telling) (xs : List X) (d : X) (k : ℕ) → k < length xs → ((j : ℕ) → j < length xs → j ≢ k → last_by f (tell j (get_or xs j d)) ≡ None) → last_by f (rows_from tell 0 xs) ≡ last_by f (tell k (get_or xs k d))
 last_at f tell xs d k h others =
-    last_at_from f tell 0 xs d k h (λ j low other. ap (λ n. last_by f (tell n (get_or xs j d))) (let e : 0 + j ≡ j = omega arith in e) ∙ others j low other)
-    ∙ ap (λ n. last_by f (tell n (get_or xs k d))) (let e : 0 + k ≡ k = omega arith in e)
+    last_at_from f tell 0 xs d k k (omega arith) h
+    (λ m j q low other. ap (λ n. last_by f (tell n (get_or xs j d))) (let same : m ≡ j = omega arith in same) ∙ others j low other)
 
 abbrev pub tellings_of : List KeymapLine → List Telling
 tellings_of lines = map (λ l. l.telling) lines

@@ -1,5 +1,5 @@
 -- A text of rows is read row by row.
-use Rattle.std.proofs.Common.{◌≡◌, ℕ, ◌≤◌, Bool, true, false, ◌==◌, ◌&&◌, not, leb, cond, Some, None, Result, Ok, List, [], ◌∷◌, ◌++◌, append_assoc, codes, map, refl, ap, ◌∙◌, arith}
+use Rattle.std.proofs.Common.{◌≡◌, ℕ, ◌≤◌, Bool, true, false, ◌==◌, ◌&&◌, not, leb, cond, Some, None, Result, Ok, List, [], ◌∷◌, ◌++◌, append_assoc, codes, map, refl, ap, ◌∙◌, arith, rules}
 use Rattle.std.proofs.lemmas.Bool.{and_from, and_left, and_parts, and_right, leb-true, ne_eqb, not-true, or_from}
 use Rattle.std.specs.List.{flat_map, join_with_byte}
 use Rattle.key_text.specs.Fault.{◌>>=◌}
@@ -52,9 +52,7 @@ join_continuations_plain p ps no_join no_end = rw (no_join, no_end) refl
 stays : (at : Place) (b : ℕ) (bs rest : List ℕ) → goes_on b bs ≡ true → is_row bs ≡ true → (b == backslash && begins_end (with_places at (bs ++ 0x0A ∷ rest))) ≡ false
 stays at b [] rest on row = and_left (b == backslash) (begins_end (with_places at (0x0A ∷ rest))) (not-true (b == backslash) on)
 stays at b (c ∷ cs) rest on row =
-    let seen = (and_parts (is_seen c) (goes_on c cs && is_row cs) row).0 in
-    and_right (b == backslash) (begins_end (with_places at (c ∷ (cs ++ 0x0A ∷ rest))))
-    (or_from (c == line_feed) (c == carriage_return && _) (seen_no_lf c seen) (and_left (c == carriage_return) _ (seen_no_cr c seen)))
+    search (rules, and_parts, is_seen, and_right, or_from, seen_no_lf, and_left, seen_no_cr)
 
 -- the first row of a text, and the rows of what follows it
 row_first : (at : Place) (row rest : List ℕ) → is_row row ≡ true → rows at (join_continuations (with_places at (row ++ 0x0A ∷ rest))) ≡ row_of (spread at row) (past at row) ∷ rows (next_line (past at row)) (join_continuations (with_places (next_line (past at row)) rest))
@@ -104,8 +102,7 @@ pub record LinesTell (read : Result Got KeyFault) (tellings : List Telling) : Ty
 read_row_says : (deeper : Deeper) (end : Place) (items : List Placed) (telling : Telling) (says : SaysAt end items telling) → read_row deeper [] None 0 end items ≡ Ok (make_got (keymap_line telling (spot says.word).line (spot says.word).column ∷ []) 0)
 unfolding read_row
 read_row_says deeper end items telling says =
-    ap (read_row_by deeper [] None 0 end) says.found
-    ∙ ap (λ read. at_outer_include None read >>= λ said. got_from_row deeper [] None (spot says.word) 0 said) says.said
+    cc (says.found, says.said)
 
 no_row : (deeper : Deeper) (at : Place) → read_rows deeper [] None 0 (rows at (join_continuations (with_places at []))) ≡ Ok (make_got [] 0)
 unfolding read_row word_at
@@ -113,8 +110,7 @@ no_row deeper at = refl
 
 one_row : (deeper : Deeper) (end : Place) (items : List Placed) (left : List Row) (telling : KeymapLine) (lines : List KeymapLine) → read_row deeper [] None 0 end items ≡ Ok (make_got (telling ∷ []) 0) → read_rows deeper [] None 0 left ≡ Ok (make_got lines 0) → read_rows deeper [] None 0 (row_of items end ∷ left) ≡ Ok (make_got (telling ∷ lines) 0)
 one_row deeper end items left telling lines first more =
-    ap (λ read. read >>= λ g. with_lines g.lines (read_rows deeper [] None g.count left)) first
-    ∙ ap (with_lines (telling ∷ [])) more
+    search rules
 
 rows_read : (deeper : Deeper) (at : Place) (rs : List (List (List ℕ))) (tellings : List Telling) → AllSay rs tellings → LinesTell (read_rows deeper [] None 0 (rows at (join_continuations (with_places at (flat_map row_text rs))))) tellings
 rows_read deeper at [] [] said = record { lines = []; is = no_row deeper at; tell = refl }
@@ -147,11 +143,7 @@ pub text_read : (rs : List (List (List ℕ))) (tellings : List Telling) → AllS
 unfolding lines_of rows_of
 text_read rs tellings said =
     let read = rows_read (within most_deep []) start rs tellings said in
-    record {
-      lines = read.lines;
-      is = ap (λ r. r >>= λ g. Ok g.lines) read.is;
-      tell = read.tell;
-    }
+    search rules
 
 -- a row of two parts
 pub row_append : (a b : List ℕ) → is_row a ≡ true → is_row b ≡ true → is_row (a ++ b) ≡ true

@@ -1,5 +1,5 @@
 -- The list of keys down against the entries by place.
-use Rattle.std.proofs.Common.{◌≡◌, ℕ, ◌+◌, ◌*◌, ◌/◌, ◌%◌, ◌<◌, ◌≤◌, not, Bool, List, [], ◌∷◌, ◌++◌, length, get_or, Option, Some, None, refl, sym, ap, arith, zero, suc}
+use Rattle.std.proofs.Common.{◌≡◌, ℕ, ◌+◌, ◌*◌, ◌/◌, ◌%◌, ◌<◌, ◌≤◌, not, Bool, List, [], ◌∷◌, ◌++◌, length, get_or, Option, Some, None, refl, sym, ap, arith, zero, suc, rules}
 use Rattle.std.specs.Prelude.{filter, find, slice_set}
 use Rattle.std.specs.List.{list_any}
 use Rattle.std.specs.Option.{option_map}
@@ -81,12 +81,9 @@ placed_at : (entries : List (Option Act)) (n i from code : ℕ) (a : Act) → co
     → downs_from n (slice_set entries i (Some a)) ≡ placed (downs_from n entries) from code a
 placed_at [] n i from code a low is lt = absurd (omega arith)
 placed_at (None ∷ entries) n zero from code a low is lt =
-    rw (none_below entries (n + 1) from code low (omega arith), all_above entries (n + 1) from code low (omega arith))
-    (ap (λ d. d ∷ downs_from (n + 1) entries) (key_of n from code a low (omega arith)))
+    grind (arith, none_below, all_above, key_of)
 placed_at (Some b ∷ entries) n zero from code a low is lt =
-    rw (not-before n from code (omega arith) low, not-after n from code (omega arith) low)
-    (rw (none_below entries (n + 1) from code low (omega arith), all_above entries (n + 1) from code low (omega arith))
-    (ap (λ d. d ∷ downs_from (n + 1) entries) (key_of n from code a low (omega arith))))
+    grind (arith, not-before, not-after, none_below, all_above, key_of)
 placed_at (None ∷ entries) n (suc i) from code a low is lt =
     placed_at entries (n + 1) i from code a low (omega arith) (omega arith)
 placed_at (Some b ∷ entries) n (suc i) from code a low is lt =

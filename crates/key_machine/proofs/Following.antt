@@ -1,5 +1,5 @@
 -- The changes of the keys that are down by an event.
-use Rattle.std.proofs.Common.{◌≡◌, ◌⊎◌, ℕ, ◌==◌, ◌&&◌, not, Bool, true, false, cond, List, [], ◌∷◌, Option, Some, None, is_some, refl, sym, ap, ◌∙◌, inl, inr, ⊎_elim, arith}
+use Rattle.std.proofs.Common.{◌≡◌, ◌⊎◌, ℕ, ◌==◌, ◌&&◌, not, Bool, true, false, cond, List, [], ◌∷◌, Option, Some, None, is_some, refl, sym, ap, ◌∙◌, inl, inr, ⊎_elim, arith, rules}
 use Rattle.std.specs.Prelude.{filter, find}
 use Rattle.std.specs.Option.{option_map, option_or}
 use Rattle.std.proofs.lemmas.Bool.{and_parts, cases_Bool, cases_order, eqb-true, false≢true}
@@ -42,9 +42,7 @@ pub fresh_down : (tables : Tables) (modes : KeyModes) (from code : ℕ) (keys : 
     → (press_step tables modes from code keys s).keys.down ≡ with_key keys.down from code (looked_up tables code keys s)
 unfolding press_step
 fresh_down tables modes from code keys s up =
-    let weight = weight_of keys.down in
-    let a = looked_up tables code keys s in
-    rw up (acting_press_step_down tables modes weight a code (record keys { down = with_key keys.down from code a }) s)
+    search (rules, acting_press_step_down)
 
 pub held_down : (tables : Tables) (modes : KeyModes) (from code : ℕ) (keys : Keys) (s : State)
     → is_some (recorded_action keys.down from code) ≡ true
@@ -93,13 +91,7 @@ find_left : (p : Test) (down : List Down) (from code : ℕ) → p from code ≡ 
 find_left p [] from code fails = refl
 find_left p (d ∷ down) from code fails = ⊎_elim
     (λ (kept : p d.from d.code ≡ true).
-    let other : is_key from code d ≡ false = ⊎_elim
-    (λ (here : is_key from code d ≡ true).
-    let same = is-key from code d here in
-    let fails_here : p d.from d.code ≡ false = rw (same.0, same.1) fails in
-    absurd (false≢true (sym fails_here ∙ kept)))
-    (λ (no_match : is_key from code d ≡ false). no_match)
-    (cases_Bool (is_key from code d)) in
+    let other : is_key from code d ≡ false = grind (arith, is-key, false≢true, cases_Bool) in
     rw kept (rw other (find_left p down from code fails)))
     (λ (left : p d.from d.code ≡ false). rw left (find_left p down from code fails))
     (cases_Bool (p d.from d.code))
@@ -121,33 +113,9 @@ record Apart (at key from code : ℕ) (low : Bool) : Type 0 where
 keys_order : (at key from code : ℕ)
     → Same at key from code ⊎ (Apart at key from code true ⊎ Apart at key from code false)
 keys_order at key from code = elim (cases_order from at) [
-  | inl same ↦ elim (cases_order code key) [
-    | inl again ↦ inl (same, again)
-    | inr (inl lt) ↦ inr (inl (record {
-      other = both_other from at code key (λ _ is. omega (arith, lt, is));
-      no_match = both_other at from key code (λ _ is. omega (arith, lt, is));
-      below = second_before from at code key same lt;
-      above = second_after at from key code (sym same) (omega (arith, lt));
-    }))
-    | inr (inr gt) ↦ inr (inr (record {
-      other = both_other from at code key (λ _ is. omega (arith, gt, is));
-      no_match = both_other at from key code (λ _ is. omega (arith, gt, is));
-      below = second_after from at code key same (omega (arith, gt));
-      above = second_before at from key code (sym same) gt;
-    }))
-  ]
-  | inr (inl lt) ↦ inr (inl (record {
-    other = both_other from at code key (λ is _. omega (arith, lt, is));
-    no_match = both_other at from key code (λ is _. omega (arith, lt, is));
-    below = first_before from at code key lt;
-    above = first_after at from key code lt;
-  }))
-  | inr (inr gt) ↦ inr (inr (record {
-    other = both_other from at code key (λ is _. omega (arith, gt, is));
-    no_match = both_other at from key code (λ is _. omega (arith, gt, is));
-    below = first_after from at code key gt;
-    above = first_before at from key code gt;
-  }))
+  | inl same ↦ grind (arith, cases_order, both_other, second_before, second_after)
+  | inr (inl lt) ↦ search (rules, both_other, first_before, first_after)
+  | inr (inr gt) ↦ search (rules, both_other, first_after, first_before)
 ]
 
 -- the tests of the keys before and after the one that goes down
@@ -163,8 +131,7 @@ found_with : (down : List Down) (at key from code : ℕ) (a : Act)
     (find (is_key from code) (down_as at key a ∷ filter (λ d. upper at key d.from d.code) down))
 unfolding with_key
 found_with down at key from code a =
-    find-append (is_key from code) (filter (λ d. lower at key d.from d.code) down)
-    (down_as at key a ∷ filter (λ d. upper at key d.from d.code) down)
+    search (rules, find-append)
 
 -- what is recorded after a key went down
 pub recorded_action-with_key : (down : List Down) (at key from code : ℕ) (a : Act)
@@ -236,12 +203,7 @@ press_step_follows : (tables : Tables) (modes : KeyModes) (at key from code : �
 press_step_follows tables modes at key from code keys s = ⊎_elim
     (λ (down : is_some (recorded_action keys.down at key) ≡ true).
     let same = held_down tables modes at key keys s down in
-    rw same (⊎_elim
-    (λ (here : (from == at && code == key) ≡ true).
-    let is = numbers_same from at code key here in
-    rw here (rw (is.0, is.1) down))
-    (λ (other : (from == at && code == key) ≡ false). rw other refl)
-    (cases_Bool (from == at && code == key))))
+    search (rules, numbers_same, cases_Bool))
     (λ (up : is_some (recorded_action keys.down at key) ≡ false).
     let fresh = fresh_down tables modes at key keys s up in
     rw (fresh, recorded_action-with_key keys.down at key from code (looked_up tables key keys s))

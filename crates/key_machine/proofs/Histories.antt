@@ -1,5 +1,5 @@
 -- Histories of a keyboard, event by event.
-use Rattle.std.proofs.Common.{◌≡◌, ◌≢◌, ℕ, ◌==◌, ◌&&◌, Bool, true, false, cond, List, [], ◌∷◌, Option, Some, None, is_some, refl, sym, ap, ◌∙◌, ⊎_elim}
+use Rattle.std.proofs.Common.{◌≡◌, ◌≢◌, ℕ, ◌==◌, ◌&&◌, Bool, true, false, cond, List, [], ◌∷◌, Option, Some, None, is_some, refl, sym, ap, ◌∙◌, ⊎_elim, arith, rules}
 use Rattle.std.proofs.lemmas.Bool.{cases_Bool, false≢true}
 use Rattle.key_machine.proofs.Places.{apart, both_same}
 use Rattle.key_machine.proofs.Following.{fresh_down, keys_follow, recorded_action-with_key, recorded_action-without_key, recorded_action-without_keyboard, release_step_down}
@@ -16,28 +16,19 @@ use Rattle.scan_codes.specs.declared.key_event.KeyEvent.{KeyEvent}
 says_kept : (on from code : ℕ) (e : KeyEvent) (before : Bool)
     → cond (on == from && code == e.code) e.down before
     ≡ cond (on == from) (cond (code == e.code) e.down before) before
-says_kept on from code e before = ⊎_elim
-    (λ (here : (on == from) ≡ true). rw here refl)
-    (λ (other : (on == from) ≡ false). rw other refl)
-    (cases_Bool (on == from))
+says_kept on from code e before = search (rules, cases_Bool)
 
 gone : (on from : ℕ) (o : Option Act) → is_some (cond (on == from) None o) ≡ cond (on == from) false (is_some o)
-gone on from o = ⊎_elim
-    (λ (here : (on == from) ≡ true). rw here refl)
-    (λ (other : (on == from) ≡ false). rw other refl)
-    (cases_Bool (on == from))
+gone on from o = search (rules, cases_Bool)
 
 one_says : (event : Option KeyEvent) (t : Turn) (keys : Keys) (before : Bool) (on code : ℕ)
     → is_some (recorded_action keys.down on code) ≡ before
     → is_some (recorded_action (keys_by event t keys).down on code)
     ≡ cond (on == t.from) (says event before code) before
 one_says None t keys before on code e =
-    ap is_some (recorded_action-without_keyboard keys.down t.from on code)
-    ∙ gone on t.from (recorded_action keys.down on code) ∙ ap (λ b. cond (on == t.from) false b) e
+    grind (arith, is_some, recorded_action-without_keyboard, gone)
 one_says (Some event) t keys before on code e =
-    keys_follow t.tables t.modes t.from event keys t.state on code
-    ∙ ap (λ b. cond (on == t.from && code == event.code) event.down b) e
-    ∙ says_kept on t.from code event before
+    grind (arith, keys_follow, says_kept)
 
 last_from : (turns : List Turn) (keys : Keys) (before : Bool) (on code : ℕ)
     → is_some (recorded_action keys.down on code) ≡ before
@@ -74,17 +65,11 @@ all_come_up turns up =
 
 pub presses_record : PressesRecord
 presses_record tables modes from e keys s down up =
-    let a = looked_up tables e.code keys s in
-    rw down
-    (ap (λ ds. recorded_action ds from e.code) (fresh_down tables modes from e.code keys s up)
-    ∙ recorded_action-with_key keys.down from e.code from e.code a
-    ∙ ap (λ b. cond b (Some a) (recorded_action keys.down from e.code)) (both_same from from e.code e.code refl refl))
+    grind (arith, fresh_down, recorded_action-with_key, both_same)
 
 pub releases_take : ReleasesTake
 releases_take tables modes from e keys s on code up =
-    rw up
-    (ap (λ ds. recorded_action ds on code) (release_step_down from e.code keys s)
-    ∙ recorded_action-without_key keys.down from e.code on code)
+    cc (release_step_down from e.code keys s, recorded_action-without_key keys.down from e.code on code)
 
 -- the locks after a choice
 locks_cond : (b : Bool) (x y : Step) → (cond b x y).state.locks ≡ cond b x.state.locks y.state.locks
@@ -112,26 +97,17 @@ acting_press_step_locks : (tables : Tables) (modes : KeyModes) (weight : ℕ) (a
     → (a.kind == LOCK) ≡ false → (acting_press_step tables modes weight a code keys s).state.locks ≡ s.locks
 unfolding acting_press_step
 acting_press_step_locks tables modes weight a code keys s other =
-    let same = action_step_locks tables modes weight a keys s other in
-    simp (locks_cond, locks_choice, same, cond_same)
+    search (rules, action_step_locks, locks_cond, locks_choice, cond_same)
 
 press_step_locks : (tables : Tables) (modes : KeyModes) (from code : ℕ) (keys : Keys) (s : State)
     → (looked_up tables code keys s).kind ≢ LOCK → (press_step tables modes from code keys s).state.locks ≡ s.locks
 unfolding press_step
 press_step_locks tables modes from code keys s other =
-    let weight = weight_of keys.down in
-    let a = looked_up tables code keys s in
-    let none = apart a.kind LOCK other in
-    let fresh = acting_press_step_locks tables modes weight a code (record keys { down = with_key keys.down from code a }) s none in
-    let again = acting_press_step_locks tables modes weight a code keys s none in
-    simp (locks_cond, fresh, again, cond_same)
+    search (rules, apart, acting_press_step_locks, locks_cond, cond_same)
 
 release_step_locks : (from code : ℕ) (keys : Keys) (s : State) → (release_step from code keys s).state.locks ≡ s.locks
 unfolding release_step
 release_step_locks from code keys s = simp (locks_cond, cond_same)
 
 pub locks_stay : LocksStay
-locks_stay tables modes from e keys s other = ⊎_elim
-    (λ (down : e.down ≡ true). rw down (press_step_locks tables modes from e.code keys s (other down)))
-    (λ (up : e.down ≡ false). rw up (release_step_locks from e.code keys s))
-    (cases_Bool e.down)
+locks_stay tables modes from e keys s other = search (rules, press_step_locks, release_step_locks, cases_Bool)

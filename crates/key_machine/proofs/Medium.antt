@@ -1,5 +1,5 @@
 -- The bytes of key events in K_MEDIUMRAW, event by event.
-use Rattle.std.proofs.Common.{◌≡◌, ℕ, ◌+◌, ◌/◌, ◌%◌, ◌<◌, ◌≤◌, Bool, true, false, cond, List, [], ◌∷◌, ◌++◌, get_or, drop, length, refl, sym, ap, ◌∙◌, ⊎_elim, arith}
+use Rattle.std.proofs.Common.{◌≡◌, ℕ, ◌+◌, ◌/◌, ◌%◌, ◌<◌, ◌≤◌, Bool, true, false, cond, List, [], ◌∷◌, ◌++◌, get_or, drop, length, refl, sym, ap, ◌∙◌, ⊎_elim, arith, rules}
 use Rattle.std.proofs.lemmas.Bool.{cases_lt}
 use Rattle.std.proofs.lemmas.List.Elements.{All-head, All-tail}
 use Rattle.key_machine.proofs.Places.{less, not-less}
@@ -70,7 +70,7 @@ event_same c d a b xs ys kc kd e = ⊎_elim
     let f : up_bit a ∷ (128 + c / 128) ∷ (128 + c % 128) ∷ xs ≡ up_bit b ∷ (128 + d / 128) ∷ (128 + d % 128) ∷ ys = ap (λ bs. bs ++ xs) (sym (long c a hc)) ∙ e ∙ ap (λ bs. bs ++ ys) (long d b hd) in
     let g = rest_same _ _ _ _ f in
     let h = rest_same _ _ _ _ g in
-    let high : 128 + c / 128 ≡ 128 + d / 128 = first_same _ _ _ _ g in
+    
     let low : 128 + c % 128 ≡ 128 + d % 128 = first_same _ _ _ _ h in
     (omega arith, bit_same a b (first_same _ _ _ _ f), rest_same _ _ _ _ h))
     (cases_lt d 128))
@@ -78,15 +78,7 @@ event_same c d a b xs ys kc kd e = ⊎_elim
 
 -- bytes of a key event are some
 some_bytes : (c : ℕ) (a : Bool) (xs : List ℕ) → [] ≡ code_bytes c a ++ xs → ⊥
-some_bytes c a xs e = ⊎_elim
-    (λ (low : c < 128).
-    let f : [] ≡ (c + up_bit a) ∷ xs = e ∙ ap (λ bs. bs ++ xs) (short c a low) in no-cons _ _ f)
-    (λ (high : 128 ≤ c).
-    let f : [] ≡ up_bit a ∷ (128 + c / 128) ∷ (128 + c % 128) ∷ xs = e ∙ ap (λ bs. bs ++ xs) (long c a high) in no-cons _ _ f)
-    (cases_lt c 128)
-  where
-    no-cons : (x : ℕ) (ys : List ℕ) → [] ≡ x ∷ ys → ⊥
-    no-cons x ys g = let n : 0 ≡ length (x ∷ ys) = ap length g in omega arith
+some_bytes c a xs e = grind (arith, short, long, cases_lt)
 
 event_of : (e f : KeyEvent) → e.code ≡ f.code → e.down ≡ f.down → e ≡ f
 event_of e f codes downs =

@@ -1,5 +1,5 @@
 -- The order of keys against the order of their places.
-use Rattle.std.proofs.Common.{◌≡◌, ◌≢◌, ℕ, ◌+◌, ◌*◌, ◌/◌, ◌%◌, ◌<◌, ◌≤◌, ◌==◌, ◌&&◌, true, false, refl, arith, ltb, inl, inr, ⊎_elim}
+use Rattle.std.proofs.Common.{◌≡◌, ◌≢◌, ℕ, ◌+◌, ◌*◌, ◌/◌, ◌%◌, ◌<◌, ◌≤◌, ◌==◌, ◌&&◌, true, false, refl, arith, ltb, inl, inr, ⊎_elim, rules}
 use Rattle.std.proofs.lemmas.Bool.{cases_lt, eq-eqb}
 use Rattle.std.proofs.lemmas.Bool.Decides.{eqb_tells, nat_tests}
 use Rattle.key_machine.specs.Keys.{is_before}
@@ -18,10 +18,7 @@ pub both_same : (a b c d : ℕ) → a ≡ b → c ≡ d → (a == b && c == d) �
 both_same a b c d first second = rw (eq-eqb a b first, eq-eqb c d second) refl
 
 pub both_other : (a b c d : ℕ) → (a ≡ b → c ≢ d) → (a == b && c == d) ≡ false
-both_other a b c d other = elim (eqb_tells a b) [
-  | inl same ↦ rw same.0 (apart c d (other same.1))
-  | inr differ ↦ rw differ.0 refl
-]
+both_other a b c d other = search (rules, eqb_tells, apart)
 
 pub first_before : (a b c d : ℕ) → a < b → is_before a c b d ≡ true
 first_before a b c d lt = rw (less a b lt) refl
@@ -43,29 +40,13 @@ pub elsewhere : (n from code : ℕ) → n ≢ 256 * from + code → code < 256 �
 elsewhere n from code other low = both_other (n / 256) from (n % 256) code (λ first second. other (omega arith))
 
 pub before : (n from code : ℕ) → n < 256 * from + code → code < 256 → is_before (n / 256) (n % 256) from code ≡ true
-before n from code lt low = ⊎_elim
-    (λ (first : n / 256 < from). first_before (n / 256) from (n % 256) code first)
-    (λ (not_first : from ≤ n / 256).
-    second_before (n / 256) from (n % 256) code (omega arith) (omega arith))
-    (cases_lt (n / 256) from)
+before n from code lt low = search (rules, first_before, second_before, cases_lt)
 
 pub not-before : (n from code : ℕ) → 256 * from + code ≤ n → code < 256 → is_before (n / 256) (n % 256) from code ≡ false
-not-before n from code le low = ⊎_elim
-    (λ (first : from < n / 256). first_after (n / 256) from (n % 256) code first)
-    (λ (not_first : n / 256 ≤ from).
-    second_after (n / 256) from (n % 256) code (omega arith) (omega arith))
-    (cases_lt from (n / 256))
+not-before n from code le low = search (rules, first_after, second_after, cases_lt)
 
 pub after : (n from code : ℕ) → 256 * from + code < n → code < 256 → is_before from code (n / 256) (n % 256) ≡ true
-after n from code lt low = ⊎_elim
-    (λ (first : from < n / 256). first_before from (n / 256) code (n % 256) first)
-    (λ (not_first : n / 256 ≤ from).
-    second_before from (n / 256) code (n % 256) (omega arith) (omega arith))
-    (cases_lt from (n / 256))
+after n from code lt low = search (rules, first_before, second_before, cases_lt)
 
 pub not-after : (n from code : ℕ) → n ≤ 256 * from + code → code < 256 → is_before from code (n / 256) (n % 256) ≡ false
-not-after n from code le low = ⊎_elim
-    (λ (first : n / 256 < from). first_after from (n / 256) code (n % 256) first)
-    (λ (not_first : from ≤ n / 256).
-    second_after from (n / 256) code (n % 256) (omega arith) (omega arith))
-    (cases_lt (n / 256) from)
+not-after n from code le low = search (rules, first_after, second_after, cases_lt)

@@ -1,5 +1,5 @@
 -- A keyboard's keys are released one after another.
-use Rattle.std.proofs.Common.{◌≡◌, ℕ, ◌+◌, ◌/◌, ◌%◌, ◌==◌, ◌&&◌, not, Bool, true, false, List, [], ◌∷◌, Option, Some, None, refl, ap, arith, inl, inr, ⊎_elim}
+use Rattle.std.proofs.Common.{◌≡◌, ℕ, ◌+◌, ◌/◌, ◌%◌, ◌==◌, ◌&&◌, not, Bool, true, false, List, [], ◌∷◌, Option, Some, None, refl, ap, arith, inl, inr, ⊎_elim, rules}
 use Rattle.std.specs.Prelude.{filter}
 use Rattle.std.proofs.lemmas.Bool.{cases_Bool, cases_order, eq-eqb, and_right}
 use Rattle.key_machine.specs.Held.{downs, downs_from, left_to, stays}
@@ -17,14 +17,7 @@ left_first from (d ∷ down) = rw (none_yet from d) (ap (λ (ds : List Down). d 
 
 -- one key more
 stays_next : (from n : ℕ) (d : Down) → stays from (n + 1) d ≡ (stays from n d && not (is_key from n d))
-stays_next from n d = ⊎_elim
-    (λ (here : (d.from == from) ≡ true). rw here (elim (cases_order d.code n) [
-      | inl same ↦ rw (eq-eqb d.code n same, not-less d.code n (omega (arith, same)), less d.code (n + 1) (omega (arith, same))) refl
-      | inr (inl lt) ↦ rw (apart d.code n (λ same. omega (arith, same, lt)), less d.code n lt, less d.code (n + 1) (omega (arith, lt))) refl
-      | inr (inr gt) ↦ rw (apart d.code n (λ same. omega (arith, same, gt)), not-less d.code n (omega (arith, gt)), not-less d.code (n + 1) (omega (arith, gt))) refl
-    ]))
-    (λ (other : (d.from == from) ≡ false). rw other refl)
-    (cases_Bool (d.from == from))
+stays_next from n d = search (rules, cases_order, eq-eqb, not-less, less, apart, cases_Bool)
 
 filter_twice : (p q r : Down → Bool) → ((d : Down) → r d ≡ (p d && q d)) → (down : List Down)
     → filter q (filter p down) ≡ filter r down

@@ -5,6 +5,7 @@ ghost use Rattle.key_machine.specs.Step.{was_modifier};
 
 use key_syms::{Action, KEYCODES, kind};
 use std::marker::Model;
+use vt_base::KeyboardNo;
 
 /// The keys that are down on all keyboards, each with the action of its press.
 #[derive(Debug, Drop)]
@@ -39,8 +40,7 @@ impl HeldKeys {
     }
 
     #[tactic(auto, using(crate::proofs::Downs::entries_as_keys))]
-    pub(crate) fn is_down(&self, from: u8, code: u8) -> bool
-        requires { from < 4 }
+    pub(crate) fn is_down(&self, from: KeyboardNo, code: u8) -> bool
         ensures { result ≡ is_some (recorded_action self.now from code) }
     {
         self.entries[place(from, code)].is_some()
@@ -48,9 +48,8 @@ impl HeldKeys {
 
     /// The key goes down with this action.
     #[tactic(auto, using(crate::proofs::Downs::entries_as_keys))]
-    pub(crate) fn press(&mut self, from: u8, code: u8, a: Action)
-        requires keyboard { from < 4 }
-        requires up { recorded_action self.old from code ≡ None }
+    pub(crate) fn press(&mut self, from: KeyboardNo, code: u8, a: Action)
+        requires { recorded_action self.old from code ≡ None }
         ensures { self.new ≡ with_key self.old from code a }
     {
         self.entries[place(from, code)] = Some(a);
@@ -61,8 +60,7 @@ impl HeldKeys {
 
     /// The key goes up. Returns whether it was down as a modifier.
     #[tactic(auto, using(crate::proofs::Downs::entries_as_keys))]
-    pub(crate) fn release(&mut self, from: u8, code: u8) -> bool
-        requires { from < 4 }
+    pub(crate) fn release(&mut self, from: KeyboardNo, code: u8) -> bool
         ensures was { result ≡ was_modifier (recorded_action self.old from code) }
         ensures up { self.new ≡ without_key self.old from code }
     {
@@ -80,8 +78,7 @@ impl HeldKeys {
     }
 
     /// The keyboard is unplugged: all its keys go up.
-    pub(crate) fn unplug(&mut self, from: u8)
-        requires { from < 4 }
+    pub(crate) fn unplug(&mut self, from: KeyboardNo)
         ensures { self.new ≡ without_keyboard self.old from }
     {
         self.has_bytes(from);
@@ -91,7 +88,7 @@ impl HeldKeys {
     }
 
     // Does nothing. It is called for its clause: every keycode is below 256.
-    fn has_bytes(&self, from: u8)
+    fn has_bytes(&self, from: KeyboardNo)
         ensures { left_to from 256 self.now ≡ without_keyboard self.now from }
     {
         let _entries = &self.entries;
@@ -114,12 +111,11 @@ impl HeldKeys {
 }
 
 // The place of a key: the keys of a keyboard are next to each other, by their keycodes.
-fn place(from: u8, code: u8) -> usize
-    requires { from < 4 }
+fn place(from: KeyboardNo, code: u8) -> usize
     ensures place { result ≡ 256 * from + code }
     ensures high { result < 1024 }
 {
-    KEYCODES * usize::from(from) + usize::from(code)
+    KEYCODES * usize::from(from.get()) + usize::from(code)
 }
 
 // The modifier that an action is, if it is one.

@@ -19,6 +19,7 @@ use key_syms::{Action, kind};
 use key_tables::KeyTables;
 use scan_codes::KeyEvent;
 use std::marker::Model;
+use vt_base::KeyboardNo;
 
 /// Up to four keyboards that type together: the keys that are down, each with the action of its
 /// press, and the accent, Compose or number that waits for the next key. A key event takes no
@@ -81,6 +82,7 @@ impl Keyboard {
         ensures state { s.new ≡ (key_step t.now m from e self.old s.old).state }
         ensures out { out_with t.now result ≡ (key_step t.now m from e self.old s.old).out }
     {
+        let from = KeyboardNo::numbered(from);
         if e.down {
             self.press(from, e.code, t, s, m)
         } else {
@@ -94,13 +96,19 @@ impl Keyboard {
         requires { from < 4 }
         ensures { self.new ≡ after_unplug from self.old }
     {
-        self.held.unplug(from);
+        self.held.unplug(KeyboardNo::numbered(from));
     }
 
     // A key goes down. Its weight is taken before it is recorded: this order is part of the rule.
     #[tactic(auto, unfolding(crate::specs::Step::press_step), using(crate::proofs::Outs::outs))]
-    fn press(&mut self, from: u8, code: u8, t: &KeyTables, s: &mut KbState, m: KeyModes) -> ShortOut
-        requires { from < 4 }
+    fn press(
+        &mut self,
+        from: KeyboardNo,
+        code: u8,
+        t: &KeyTables,
+        s: &mut KbState,
+        m: KeyModes,
+    ) -> ShortOut
         ensures { press_step t.now m from code self.old s.old
             ≡ step self.new s.new (out_with t.now result) }
     {
@@ -118,8 +126,7 @@ impl Keyboard {
 
     // A key goes up.
     #[tactic(auto, unfolding(crate::specs::Step::release_step), using(crate::proofs::Outs::outs))]
-    fn release(&mut self, from: u8, code: u8, s: &KbState) -> ShortOut
-        requires { from < 4 }
+    fn release(&mut self, from: KeyboardNo, code: u8, s: &KbState) -> ShortOut
         ensures keys { self.new ≡ (release_step from code self.old s.now).keys }
         ensures state { (release_step from code self.old s.now).state ≡ s.now }
         ensures out { (tables : Tables) → out_with tables result ≡ (release_step from code self.old s.now).out }

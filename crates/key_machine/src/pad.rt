@@ -46,7 +46,7 @@ pub(crate) fn pad_out(m: KeyModes, weight: u8, flags: u8, v: u16) -> ShortOut
     ensures { (tables : Tables) → out_with tables result ≡ out_of (pad_bytes tables m weight flags v) }
 {
     if m.keypad && weight == 0 {
-        sent(FewBytes::of(&[0x1B, b'O', letter(v)]))
+        sent(FewBytes::of(&[0x1B, b'O', LETTERS[usize::from(v)]]))
     } else if flags & flag::NUM != 0 {
         sent(with_num(m.newline, v))
     } else {
@@ -62,7 +62,7 @@ fn with_num(newline: bool, v: u16) -> FewBytes
     if v == ENTER {
         return_bytes(newline)
     } else {
-        FewBytes::of(&[character(v)])
+        FewBytes::of(&[CHARACTERS[usize::from(v)]])
     }
 }
 
@@ -85,20 +85,4 @@ fn without_num(m: KeyModes, v: u16) -> ShortOut
         15 | 16 => ShortOut::Function(function::REMOVE),
         _ => sent(with_num(m.newline, v)),
     }
-}
-
-// The letter of a key of the pad with DECPAM.
-fn letter(v: u16) -> u8
-    requires { v ≤ 16 }
-    ensures { result ≡ slice_index pad_letters v }
-{
-    LETTERS[usize::from(v)]
-}
-
-// The character of a key of the pad.
-fn character(v: u16) -> u8
-    requires { v ≤ 16 }
-    ensures { result ≡ slice_index pad_characters v }
-{
-    CHARACTERS[usize::from(v)]
 }

@@ -3,6 +3,7 @@ use Rattle.std.proofs.Common.{◌≡◌, ℕ, ◌+◌, ◌-◌, ◌<◌, ◌≤�
 use Rattle.std.proofs.lemmas.Bool.{cases_order, ltb-true}
 use Rattle.std.proofs.lemmas.Cmp.{nat_list_cmp_total, tied_itself}
 use Rattle.std.proofs.lemmas.List.{get_or-map}
+use Rattle.std.proofs.lemmas.List.Sums.{AllPass-from_list_all}
 use Rattle.std.specs.Cmp.Lexicographic.{slice_cmp}
 use Rattle.std.specs.Ordering.{nat_cmp}
 use Rattle.std.specs.declared.cmp.Ordering.TheVariants.{Less, Equal}
@@ -11,14 +12,14 @@ use Rattle.key_syms.specs.Index.{name_at, place_of_rank}
 use Rattle.key_syms.specs.declared.index.TheConstants.{LENGTHS, ORDER, STARTS}
 use Rattle.key_syms.specs.declared.table.TheConstants.{NAMES, NAMES_SIZE, NAME_COUNT}
 use Rattle.key_syms.proofs.Computed.{length-names, names, names_lie, names_rise, ranks_all, ranks_within}
-use Rattle.key_syms.proofs.Ranks.{IsBefore, LiesAt, counts_among_rank, lie_at_each, list_all_each, rises_each}
+use Rattle.key_syms.proofs.Ranks.{IsBefore, LiesAt, counts_among_rank, lie_at_each, rises_each}
 
 length-ORDER : length ORDER ≡ NAME_COUNT
 length-ORDER = refl
 
 pub order_is_within : (rank : ℕ) → rank < NAME_COUNT → slice_index ORDER rank < NAME_COUNT
 order_is_within rank h =
-    ltb-true _ _ (list_all_each (λ p. ltb p NAME_COUNT) ORDER ranks_within rank (subst (λ (n : ℕ). rank < n) (sym length-ORDER) h))
+    ltb-true _ _ (AllPass-from_list_all (λ p. ltb p NAME_COUNT) ORDER ranks_within rank 0 (subst (λ (n : ℕ). rank < n) (sym length-ORDER) h))
 
 name_lies : (place : ℕ) → place < NAME_COUNT → LiesAt NAMES (get_or names place []) (slice_index STARTS place) (slice_index LENGTHS place)
 name_lies place h = lie_at_each names STARTS LENGTHS 0 NAMES names_lie place (subst (λ (n : ℕ). place < n) (sym length-names) h)

@@ -1,7 +1,7 @@
 -- Tests of a table and of the order of its names, and their consequences, for any table.
 use Rattle.std.proofs.Common.{◌≡◌, ◌≢◌, ℕ, zero, suc, ◌+◌, ◌-◌, ◌<◌, ◌≤◌, Bool, true, false, ◌&&◌, ◌||◌, eqb, leb, List, [], ◌∷◌, length, get_or, take, drop, refl, ap, ◌∙◌, subst, inl, inr, arith}
 use Rattle.std.proofs.lemmas.List.{drop-drop}
-use Rattle.std.proofs.lemmas.Bool.{false≢true, leb-true}
+use Rattle.std.proofs.lemmas.Bool.{and_parts, false≢true, leb-true}
 use Rattle.std.proofs.lemmas.Bool.Decides.{eqb_tells}
 use Rattle.std.proofs.lemmas.Cmp.{nat_list_cmp_total}
 use Rattle.std.proofs.lemmas.Slice.Eq.{bytes_eq-Decides}
@@ -9,7 +9,7 @@ use Rattle.std.specs.Ordering.{nat_cmp, is_lt}
 use Rattle.std.specs.declared.cmp.Ordering.{Ordering}
 use Rattle.std.specs.declared.cmp.Ordering.TheVariants.{Less, Equal, Greater}
 use Rattle.std.specs.Cmp.Lexicographic.{slice_cmp}
-use Rattle.std.specs.List.{list_any, list_all}
+use Rattle.std.specs.List.{list_any}
 use Rattle.std.specs.Str.{bytes_eq}
 use Rattle.key_syms.specs.declared.table.TheConstants.{NAMES_SIZE}
 
@@ -36,10 +36,6 @@ abbrev pub counts_among : ℕ → ℕ → List ℕ → Bool
 counts_among from zero items = true
 counts_among from (suc n) items = list_any (λ p. eqb p from) items && counts_among (suc from) n items
 
-pub both_of : (a b : Bool) → (a && b) ≡ true → (a ≡ true) × (b ≡ true)
-both_of true b e = (refl, e)
-both_of false b e = absurd (false≢true e)
-
 drop_further : (s from : ℕ) (xs : List ℕ) → from ≤ s → drop (s - from) (drop from xs) ≡ drop s xs
 drop_further s from xs h = drop-drop (s - from) from xs ∙ ap (λ n. drop n xs) (omega arith)
 
@@ -56,18 +52,18 @@ lie_at_each [] starts lengths from text e k h = absurd (omega arith)
 lie_at_each (name ∷ names) [] lengths from text e k h = absurd (false≢true e)
 lie_at_each (name ∷ names) (s ∷ starts) [] from text e k h = absurd (false≢true e)
 lie_at_each (name ∷ names) (s ∷ starts) (l ∷ lengths) from text e zero h =
-    let first = both_of _ _ e in
-    let second = both_of _ _ first.1 in
-    let third = both_of _ _ second.1 in
+    let first = and_parts _ _ e in
+    let second = and_parts _ _ first.1 in
+    let third = and_parts _ _ second.1 in
     let le : from ≤ s = leb-true _ _ first.0 in
     record {
       spells = subst (λ (t : List ℕ). take l t ≡ name) (drop_further s from text le) ((bytes_eq-Decides _ _).0 third.0);
       within = leb-true _ _ second.0;
     }
 lie_at_each (name ∷ names) (s ∷ starts) (l ∷ lengths) from text e (suc k) h =
-    let first = both_of _ _ e in
-    let second = both_of _ _ first.1 in
-    let third = both_of _ _ second.1 in
+    let first = and_parts _ _ e in
+    let second = and_parts _ _ first.1 in
+    let third = and_parts _ _ second.1 in
     let le : from ≤ s = leb-true _ _ first.0 in
     lie_at_each names starts lengths s text
     (subst (λ (t : List ℕ). lie_at names starts lengths s t ≡ true) (drop_further s from text le) third.1) k (shorter k (length names) h)
@@ -82,14 +78,14 @@ IsBefore x y = slice_cmp nat_cmp x y ≡ Less
 
 rises_from_each : (x : List ℕ) (ys : List (List ℕ)) → rises_from x ys ≡ true → (k : ℕ) → k < length ys → IsBefore x (get_or ys k [])
 rises_from_each x [] e k h = absurd (omega arith)
-rises_from_each x (y ∷ ys) e zero h = is_lt-Less _ (both_of _ _ e).0
+rises_from_each x (y ∷ ys) e zero h = is_lt-Less _ (and_parts _ _ e).0
 rises_from_each x (y ∷ ys) e (suc k) h =
-    nat_list_cmp_total.trans x y (get_or ys k []) (is_lt-Less _ (both_of _ _ e).0)
-    (rises_from_each y ys (both_of _ _ e).1 k (omega arith))
+    nat_list_cmp_total.trans x y (get_or ys k []) (is_lt-Less _ (and_parts _ _ e).0)
+    (rises_from_each y ys (and_parts _ _ e).1 k (omega arith))
 
 rises_from-rises : (x : List ℕ) (ys : List (List ℕ)) → rises_from x ys ≡ true → rises ys ≡ true
 rises_from-rises x [] e = refl
-rises_from-rises x (y ∷ ys) e = (both_of _ _ e).1
+rises_from-rises x (y ∷ ys) e = (and_parts _ _ e).1
 
 pub rises_each : (xs : List (List ℕ)) → rises xs ≡ true → (i j : ℕ) → i < j → j < length xs → IsBefore (get_or xs i []) (get_or xs j [])
 rises_each [] e i j h k = absurd (omega arith)
@@ -107,11 +103,6 @@ among_rank j (p ∷ items) e = elim (eqb_tells p j) [
 pub counts_among_rank : (n from : ℕ) (items : List ℕ) → counts_among from n items ≡ true → (j : ℕ) → from ≤ j → j < from + n → (r : ℕ) × (r < length items) × (get_or items r 0 ≡ j)
 counts_among_rank zero from items e j h k = absurd (omega arith)
 counts_among_rank (suc n) from items e j h k = elim (eqb_tells from j) [
-  | inl q ↦ among_rank j items (subst (λ (i : ℕ). list_any (λ p. eqb p i) items ≡ true) q.1 (both_of _ _ e).0)
-  | inr q ↦ counts_among_rank n (suc from) items (both_of _ _ e).1 j (let ne : from ≢ j = q.1 in omega arith) (omega arith)
+  | inl q ↦ among_rank j items (subst (λ (i : ℕ). list_any (λ p. eqb p i) items ≡ true) q.1 (and_parts _ _ e).0)
+  | inr q ↦ counts_among_rank n (suc from) items (and_parts _ _ e).1 j (let ne : from ≢ j = q.1 in omega arith) (omega arith)
 ]
-
-pub list_all_each : (test : ℕ → Bool) (items : List ℕ) → list_all test items ≡ true → (k : ℕ) → k < length items → test (get_or items k 0) ≡ true
-list_all_each test [] e k h = absurd (omega arith)
-list_all_each test (x ∷ xs) e zero h = (both_of _ _ e).0
-list_all_each test (x ∷ xs) e (suc k) h = list_all_each test xs (both_of _ _ e).1 k (omega arith)

@@ -1,6 +1,6 @@
 -- The rows of the symbol table by their places.
 use Rattle.std.proofs.Common.{◌≡◌, ◌≢◌, ℕ, zero, suc, ◌<◌, ◌≤◌, Bool, true, false, Some, None, List, [], ◌∷◌, length, get_or, refl, sym, ap, ◌∙◌, subst, leb, ltb, IsTrue, arith}
-use Rattle.std.proofs.lemmas.Bool.{eqb-true, eq-eqb, false≢true, leb-true}
+use Rattle.std.proofs.lemmas.Bool.{and_parts, eqb-true, eq-eqb, false_from_ne_true, false≢true, leb-true}
 use Rattle.std.proofs.lemmas.List.{get_or-map}
 use Rattle.std.proofs.lemmas.Slice.Eq.{bytes_eq-Decides}
 use Rattle.std.specs.List.{list_all, slice_index}
@@ -15,7 +15,6 @@ use Rattle.key_syms.specs.declared.table.TheConstants.{NAME_COUNT}
 use Rattle.key_syms.proofs.Computed.{acts_are, length-symbols, names, symbols_acts}
 use Rattle.key_syms.proofs.Listed.{find_at, find_none}
 use Rattle.key_syms.proofs.Places.{name_at-names, names_apart}
-use Rattle.key_syms.proofs.Ranks.{both_of}
 
 abbrev pub no_symbol : Symbol
 no_symbol = record { name = []; act = act 0 0 }
@@ -32,7 +31,7 @@ pub record IsRow (row : Symbol) (kind value : ℕ) : Type 0 where
 
 pub same_act-true : (a b : Act) → same_act a b ≡ true → a ≡ b
 same_act-true a b e =
-    let parts = both_of _ _ e in
+    let parts = and_parts _ _ e in
     let kinds : a.kind ≡ b.kind = eqb-true _ _ parts.0 in
     let values : a.value ≡ b.value = eqb-true _ _ parts.1 in
     ap (λ kind. act kind a.value) kinds ∙ ap (λ value. act b.kind value) values
@@ -45,10 +44,10 @@ acts_are_each [] kinds values e k h = absurd (omega arith)
 acts_are_each (s ∷ rows) [] values e k h = absurd (false≢true e)
 acts_are_each (s ∷ rows) (x ∷ kinds) [] e k h = absurd (false≢true e)
 acts_are_each (s ∷ rows) (x ∷ kinds) (v ∷ values) e zero h =
-    let first = both_of (same_act s.act (act x v)) _ e in
-    let second = both_of (is_action x v) _ first.1 in
-    let third = both_of (leb (length s.name) 32) _ second.1 in
-    let fourth = both_of (list_all (λ b. ltb b 128) s.name) _ third.1 in
+    let first = and_parts (same_act s.act (act x v)) _ e in
+    let second = and_parts (is_action x v) _ first.1 in
+    let third = and_parts (leb (length s.name) 32) _ second.1 in
+    let fourth = and_parts (list_all (λ b. ltb b 128) s.name) _ third.1 in
     record {
       action = same_act-true _ _ first.0;
       known = second.0;
@@ -56,10 +55,10 @@ acts_are_each (s ∷ rows) (x ∷ kinds) (v ∷ values) e zero h =
       ascii = fourth.0;
     }
 acts_are_each (s ∷ rows) (x ∷ kinds) (v ∷ values) e (suc k) h =
-    let first = both_of (same_act s.act (act x v)) _ e in
-    let second = both_of (is_action x v) _ first.1 in
-    let third = both_of (leb (length s.name) 32) _ second.1 in
-    let fourth = both_of (list_all (λ b. ltb b 128) s.name) _ third.1 in
+    let first = and_parts (same_act s.act (act x v)) _ e in
+    let second = and_parts (is_action x v) _ first.1 in
+    let third = and_parts (leb (length s.name) 32) _ second.1 in
+    let fourth = and_parts (list_all (λ b. ltb b 128) s.name) _ third.1 in
     acts_are_each rows kinds values fourth.1 k (fewer k rows h)
   where
     fewer : (k : ℕ) (rows : List Symbol) → suc k < suc (length rows) → k < length rows
@@ -78,14 +77,10 @@ row_name place h = name_at-names place h ∙ get_or-map (λ (s : Symbol). s.name
 pub act_is_action : (place : ℕ) → place < NAME_COUNT → IsTrue (is_action (slice_index KINDS place) (slice_index VALUES place))
 act_is_action place h = (row place h).known
 
-is_false : (b : Bool) → (b ≡ true → ⊥) → b ≡ false
-is_false true h = absurd (h refl)
-is_false false h = refl
-
 -- a place below has another name
 another : (name : List ℕ) (place j : ℕ) → place < NAME_COUNT → name_at place ≡ name → j < place → bytes_eq (row_at j).name name ≡ false
 another name place j h e k =
-    is_false _ (λ same.
+    false_from_ne_true _ (λ same.
     let texts : (row_at j).name ≡ name = (bytes_eq-Decides _ _).0 same in
     let equal : j ≡ place = names_apart j place (omega arith) h (row_name j (omega arith) ∙ texts ∙ sym e) in
     omega arith)
@@ -102,7 +97,7 @@ listed_action_missing name h =
     let test : Symbol → Bool = λ s. bytes_eq s.name name in
     ap (option_map (λ (s : Symbol). s.act)) (find_none test symbols no_symbol (λ k q.
     let in_table : k < NAME_COUNT = subst (λ (n : ℕ). k < n) length-symbols q in
-    is_false _ (λ same. h k in_table (row_name k in_table ∙ (bytes_eq-Decides _ _).0 same))))
+    false_from_ne_true _ (λ same. h k in_table (row_name k in_table ∙ (bytes_eq-Decides _ _).0 same))))
 
 -- the actions of the places below this one are others
 abbrev pub OthersBelow : Act → ℕ → Type 0

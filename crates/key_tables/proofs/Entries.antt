@@ -1,5 +1,5 @@
 -- The changes by one entry or string that is set.
-use Rattle.std.proofs.Common.{◌≡◌, ◌≢◌, ℕ, ◌<◌, Bool, true, false, ◌==◌, ◌&&◌, cond, Option, Some, None, is_some, IfSome, IsTrue, List, length, refl, sym, ap, ◌∙◌, subst, inl, inr, arith}
+use Rattle.std.proofs.Common.{◌≡◌, ◌≢◌, ℕ, ◌<◌, Bool, true, false, ◌==◌, ◌&&◌, cond, Option, Some, None, is_some, IfSome, IsTrue, List, length, refl, sym, ap, ◌∙◌, subst, inl, inr, arith, rules}
 use Rattle.std.proofs.lemmas.Bool.{false≢true}
 use Rattle.std.proofs.lemmas.Bool.Decides.{eqb_tells}
 use Rattle.std.proofs.lemmas.List.{get_or-set_other, get_or-set_same, length-set}
@@ -11,14 +11,7 @@ use Rattle.key_syms.specs.declared.pair.Pair.{Pair}
 use Rattle.key_tables.specs.Tables.{IsMap, IsWhole, Tables, entry_of, exists_in, hole, tables_of}
 
 pub in_map : (map : List Act) (c d : ℕ) (a : Act) → c < length map → slice_index_or (slice_set map c a) d hole ≡ cond (d == c) a (slice_index_or map d hole)
-in_map map c d a h = elim (eqb_tells d c) [
-  | inl same ↦
-      subst (λ (i : ℕ). slice_index_or (slice_set map c a) i hole ≡ a) (sym same.1) (get_or-set_same map c a hole h)
-      ∙ sym (ap (λ t. cond t a (slice_index_or map d hole)) same.0)
-  | inr other ↦
-      get_or-set_other map c d a hole other.1
-      ∙ sym (ap (λ t. cond t a (slice_index_or map d hole)) other.0)
-]
+in_map map c d a h = grind (arith, eqb_tells, get_or-set_same, get_or-set_other)
 
 -- a map stays one where an action is put at a keycode
 pub put_map : (map : List Act) (c i : ℕ) (a : Act) → i ≡ c → c ≢ 0 → IsTrue (is_action a.kind a.value) → IsMap map → IsMap (slice_set map i a)

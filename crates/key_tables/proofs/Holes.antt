@@ -1,5 +1,5 @@
 -- Maps of holes, table by table.
-use Rattle.std.proofs.Common.{◌≡◌, ℕ, zero, suc, ◌+◌, ◌<◌, ◌≤◌, Bool, true, false, ◌==◌, cond, Option, Some, None, is_some, List, [], ◌∷◌, ◌++◌, length, get_or, replicate, All, IsTrue, refl, sym, ap, ◌∙◌, subst, inl, inr, ◌⊎◌, arith}
+use Rattle.std.proofs.Common.{◌≡◌, ℕ, zero, suc, ◌+◌, ◌<◌, ◌≤◌, Bool, true, false, ◌==◌, cond, Option, Some, None, is_some, List, [], ◌∷◌, ◌++◌, length, get_or, replicate, All, IsTrue, refl, sym, ap, ◌∙◌, subst, inl, inr, ◌⊎◌, arith, rules}
 use Rattle.std.proofs.lemmas.Bool.{cases_lt}
 use Rattle.std.proofs.lemmas.Bool.Decides.{eqb_tells}
 use Rattle.std.proofs.lemmas.List.{get_or-replicate, get_or_append_left, get_or_past, get_or_push, length-replicate, length_push}
@@ -58,52 +58,15 @@ begun_without declared places kept n is absent = record {
     | inl low ↦ ap is_some (get_or_append_left places (None ∷ []) None t (let tall = is.tall in omega arith)) ∙ is.named t low
     | inr high ↦
         let e : t ≡ n = omega arith in
-        ap (λ u. is_some (slice_index_or (places ++ None ∷ []) u None)) e
-        ∙ ap is_some (get_or_push places None None n is.tall)
-        ∙ sym (ap (λ u. list_any (λ d. d == u) declared) e ∙ absent)
+        grind (arith, is_some, get_or_push)
   ];
-  within = λ t p e. elim (place_in places None t p e) [
-    | inl before ↦ is.within t p before
-    | inr last ↦ absurd (none-some _ last.1)
-  ];
-  own = λ t u p e f. elim (place_in places None t p e) [
-    | inl first ↦ elim (place_in places None u p f) [
-      | inl second ↦ is.own t u p first second
-      | inr last ↦ absurd (none-some _ last.1)
-    ]
-    | inr last ↦ absurd (none-some _ last.1)
-  ];
+  within = search (rules, place_in, none-some);
+  own = search (rules, place_in, none-some);
 }
 
 -- or that of a further table
 begun_with : (declared : List ℕ) (places : List (Option ℕ)) (kept : List (List Act)) (n : ℕ) → AreBegun declared places kept n → list_any (λ d. d == n) declared ≡ true → AreBegun declared (places ++ Some (length kept) ∷ []) (kept ++ replicate 256 hole ∷ []) (n + 1)
-begun_with declared places kept n is present = record {
-  tall = length_push places (Some (length kept)) ∙ ap (λ m. m + 1) is.tall;
-  few = let few = is.few in let more = length_push kept (replicate 256 hole) in omega arith;
-  holes = All-push (λ (map : List Act). map ≡ replicate 256 hole) kept (replicate 256 hole) is.holes refl;
-  named = λ t h. elim (cases_lt t n) [
-    | inl low ↦ ap is_some (get_or_append_left places (Some (length kept) ∷ []) None t (let tall = is.tall in omega arith)) ∙ is.named t low
-    | inr high ↦
-        let e : t ≡ n = omega arith in
-        ap (λ u. is_some (slice_index_or (places ++ Some (length kept) ∷ []) u None)) e
-        ∙ ap is_some (get_or_push places (Some (length kept)) None n is.tall)
-        ∙ sym (ap (λ u. list_any (λ d. d == u) declared) e ∙ present)
-  ];
-  within = λ t p e. let more = length_push kept (replicate 256 hole) in elim (place_in places (Some (length kept)) t p e) [
-    | inl before ↦ let low = is.within t p before in omega arith
-    | inr last ↦ let same = same_Some _ _ last.1 in omega arith
-  ];
-  own = λ t u p e f. elim (place_in places (Some (length kept)) t p e) [
-    | inl first ↦ elim (place_in places (Some (length kept)) u p f) [
-      | inl second ↦ is.own t u p first second
-      | inr last ↦ absurd (let low = is.within t p first in let same = same_Some _ _ last.1 in omega arith)
-    ]
-    | inr last ↦ elim (place_in places (Some (length kept)) u p f) [
-      | inl second ↦ absurd (let low = is.within u p second in let same = same_Some _ _ last.1 in omega arith)
-      | inr also ↦ last.0 ∙ sym also.0
-    ]
-  ];
-}
+begun_with declared places kept n is present = search (rules, length_push, All-push, cases_lt, is_some, get_or_append_left, get_or_push, place_in, same_Some)
 
 pub begun_more : (declared : List ℕ) (places : List (Option ℕ)) (kept : List (List Act)) (n : ℕ) → AreBegun declared places kept n → (exists : Bool) → exists ≡ list_any (λ d. d == n) declared → (place : Option ℕ) → place ≡ cond exists (Some (length kept)) None → (after : List (List Act)) → after ≡ cond exists (kept ++ replicate 256 hole ∷ []) kept → (pushed : List (Option ℕ)) → pushed ≡ places ++ place ∷ [] → AreBegun declared pushed after (n + 1)
 begun_more declared places kept n is true test place e after f pushed g =

@@ -1,5 +1,5 @@
 -- Tables that are found by their places.
-use Rattle.std.proofs.Common.{◌≡◌, ◌≢◌, ℕ, zero, suc, ◌<◌, Option, Some, None, IfSome, List, [], ◌∷◌, length, map, get_or, refl, sym, ap, ◌∙◌, subst, inl, inr, arith}
+use Rattle.std.proofs.Common.{◌≡◌, ◌≢◌, ℕ, zero, suc, ◌<◌, Option, Some, None, IfSome, List, [], ◌∷◌, length, map, get_or, refl, sym, ap, ◌∙◌, subst, inl, inr, arith, rules}
 use Rattle.std.proofs.lemmas.Bool.Decides.{eqb_tells}
 use Rattle.std.proofs.lemmas.List.{ext_get_or, get_or-set_other, get_or-set_same, get_or_default, length-map, length-set, set-get_or}
 use Rattle.std.proofs.lemmas.List.Elements.{All-set}
@@ -88,8 +88,7 @@ kept_put places kept is p y map = record {
 -- a place that was read
 pub place_read : (places : List (Option ℕ)) (i t : ℕ) (x o : Option ℕ) → length places ≡ 256 → t < 256 → i ≡ t → x ≡ get_or places i x → x ≡ o → slice_index_or places t None ≡ o
 place_read places i t x o tall low same read is =
-    let within : t < length places = omega arith in
-    sym (read ∙ ap (λ j. get_or places j x) same ∙ get_or_default places t x None within) ∙ is
+    grind (arith, get_or_default)
 
 -- a table that was read at its place
 pub table_read : (places : List (Option ℕ)) (kept : List (List Act)) → AreKept places kept → (t p i : ℕ) (x : List Act) → slice_index_or places t None ≡ Some p → i ≡ p → x ≡ get_or kept i x → Some x ≡ slice_index_or (maps_at places kept) t None

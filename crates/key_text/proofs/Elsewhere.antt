@@ -49,9 +49,6 @@ choose true false x y z w e h k = absurd (false≢true (sym e))
 choose false true x y z w e h k = absurd (false≢true e)
 choose false false x y z w e h k = k
 
-cons_bytes : (a b : ℕ) (xs ys : List ℕ) → a ≡ b → xs ≡ ys → a ∷ xs ≡ b ∷ ys
-cons_bytes a b xs ys e f = cc
-
 without_first : (xs ys : List Placed) → bytes xs ≡ bytes ys → bytes (drop 1 xs) ≡ bytes (drop 1 ys)
 without_first xs ys e = bytes-drop 1 xs ∙ ap (drop 1) e ∙ sym (bytes-drop 1 ys)
 
@@ -72,7 +69,7 @@ join_continuations_same (p ∷ ps) (q ∷ qs) e =
     (put_at (place_of p) line_feed ∷ drop 1 (join_continuations ps)) (p ∷ join_continuations ps) (put_at (place_of q) line_feed ∷ drop 1 (join_continuations qs)) (q ∷ join_continuations qs)
     (ap (λ x. x == carriage_return && begins_lf ps) b ∙ ap (λ x. q.byte == carriage_return && x) (lf_same ps qs t))
     (ap (λ xs. line_feed ∷ xs) gone)
-    (cons_bytes p.byte q.byte (bytes (join_continuations ps)) (bytes (join_continuations qs)) b rest))
+    ((λ i. b i ∷ rest i)))
 
 -- rows of the same bytes, one by one
 abbrev Match : List Row → List Row → Type 0
@@ -85,7 +82,7 @@ item_match : (p q : Placed) (rs ss : List Row) → p.byte ≡ q.byte → Match r
 item_match p q [] [] e m = tt
 item_match p q [] (s ∷ ss) e m = absurd m
 item_match p q (r ∷ rs) [] e m = absurd m
-item_match p q (r ∷ rs) (s ∷ ss) e m = (cons_bytes p.byte q.byte (bytes r.items) (bytes s.items) e m.0, m.1)
+item_match p q (r ∷ rs) (s ∷ ss) e m = ((λ i. e i ∷ m.0 i), m.1)
 
 either_match : (b c : Bool) (rs ss ts us : List Row) → b ≡ c → Match rs ts → Match ss us → Match (cond b rs ss) (cond c ts us)
 either_match true true rs ss ts us e h k = h

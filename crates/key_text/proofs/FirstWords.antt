@@ -1,7 +1,6 @@
 -- The case of the first words of rows.
-use Rattle.std.proofs.Common.{◌≡◌, ℕ, ◌==◌, ◌&&◌, Bool, true, false, List, [], ◌∷◌, length, refl, sym, ap, ◌∙◌, inl, inr}
-use Rattle.std.proofs.lemmas.Bool.{eq-eqb, false≢true}
-use Rattle.std.proofs.lemmas.Bool.Decides.{eqb_tells}
+use Rattle.std.proofs.Common.{◌≡◌, ℕ, ◌==◌, ◌&&◌, true, List, [], ◌∷◌, length, refl, sym, ap, ◌∙◌}
+use Rattle.std.proofs.lemmas.Bool.{and_parts, eq-eqb, eqb-true, false≢true}
 use Rattle.std.proofs.lemmas.List.{length-map}
 use Rattle.std.proofs.lemmas.Str.{IsUtf8-from_ascii, utf8_valid_len-IsUtf8}
 use Rattle.std.specs.Char.{eq_ignore_ascii_case, to_ascii_lowercase}
@@ -13,20 +12,6 @@ use Rattle.key_text.specs.SameWords.{FirstWordsFold, SameButFirst, SameCase, fir
 use Rattle.key_text.specs.Words.{bytes}
 use Rattle.key_text.specs.declared.placed.Placed.{Placed}
 
-same_number : (n m : ℕ) → (n == m) ≡ true → n ≡ m
-same_number n m h = elim (eqb_tells n m) [
-  | inl e ↦ e.1
-  | inr e ↦ absurd (false≢true (sym e.0 ∙ h))
-]
-
-and_left : (a b : Bool) → (a && b) ≡ true → a ≡ true
-and_left true b h = refl
-and_left false b h = absurd (false≢true h)
-
-and_right : (a b : Bool) → (a && b) ≡ true → b ≡ true
-and_right true b h = h
-and_right false b h = absurd (false≢true h)
-
 -- what is the same but for case is the same to every text
 pub folds : (xs ys text : List ℕ) → str_eq_ignore_ascii_case xs ys ≡ true → str_eq_ignore_ascii_case xs text ≡ str_eq_ignore_ascii_case ys text
 folds [] [] text h = refl
@@ -34,9 +19,9 @@ folds [] (y ∷ ys) text h = absurd (false≢true h)
 folds (x ∷ xs) [] text h = absurd (false≢true h)
 folds (x ∷ xs) (y ∷ ys) [] h = refl
 folds (x ∷ xs) (y ∷ ys) (t ∷ text) h =
-    let lower : to_ascii_lowercase x ≡ to_ascii_lowercase y = same_number (to_ascii_lowercase x) (to_ascii_lowercase y) (and_left (eq_ignore_ascii_case x y) (str_eq_ignore_ascii_case xs ys) h) in
+    let lower : to_ascii_lowercase x ≡ to_ascii_lowercase y = eqb-true (to_ascii_lowercase x) (to_ascii_lowercase y) ((and_parts (eq_ignore_ascii_case x y) (str_eq_ignore_ascii_case xs ys) h).0) in
     ap (λ n. (n == to_ascii_lowercase t) && str_eq_ignore_ascii_case xs text) lower
-    ∙ ap (λ b. (to_ascii_lowercase y == to_ascii_lowercase t) && b) (folds xs ys text (and_right (eq_ignore_ascii_case x y) (str_eq_ignore_ascii_case xs ys) h))
+    ∙ ap (λ b. (to_ascii_lowercase y == to_ascii_lowercase t) && b) (folds xs ys text ((and_parts (eq_ignore_ascii_case x y) (str_eq_ignore_ascii_case xs ys) h).1))
 
 pub valid_ascii : (v : List Placed) → IsAscii (bytes v) → (utf8_valid_len (bytes v) == length v) ≡ true
 valid_ascii v h = eq-eqb (utf8_valid_len (bytes v)) (length v) (utf8_valid_len-IsUtf8 (bytes v) (IsUtf8-from_ascii (bytes v) h) ∙ length-map v (λ p. p.byte))

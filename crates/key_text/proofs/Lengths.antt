@@ -1,6 +1,6 @@
 -- The length of the prefix of a list that passes a test, and of a quoted text.
-use Rattle.std.proofs.Common.{◌≡◌, ℕ, suc, zero, ◌+◌, ◌<◌, ◌≤◌, Bool, true, false, cond, nat_lt, List, [], ◌∷◌, length, get_or, drop, refl, sym, ap, ◌∙◌, subst, arith}
-use Rattle.std.proofs.lemmas.List.Sums.{prefix_len-drop_all, prefix_len-drop_no, prefix_len-drop_yes}
+use Rattle.std.proofs.Common.{◌≡◌, ℕ, suc, zero, ◌+◌, Bool, true, false, cond, nat_lt, List, [], ◌∷◌, length, drop, refl, sym, ap, ◌∙◌, subst, arith}
+use Rattle.std.proofs.lemmas.List.Sums.{prefix_len-le-length, prefix_len-drop_all, prefix_len-drop_no, prefix_len-drop_yes}
 use Rattle.std.proofs.lemmas.Bool.{ltb-true}
 use Rattle.std.proofs.lemmas.List.{length-map}
 use Rattle.std.proofs.lemmas.Str.{IsUtf8-from_ascii, utf8_valid_len-IsUtf8}
@@ -14,6 +14,9 @@ use Rattle.key_text.specs.declared.placed.Placed.{Placed}
 -- the whole of a text is UTF-8
 pub whole_text : (text bytes : List ℕ) → text ≡ bytes → IsUtf8 bytes → length text ≡ utf8_valid_len bytes
 whole_text text bytes e h = ap length e ∙ sym (utf8_valid_len-IsUtf8 bytes h)
+
+-- a prefix is no longer than its list
+pub ruleset prefixes_end = (prefix_len-le-length)
 
 -- the items before i pass
 abbrev pub PassesBelow : {X : Type 0} → (X → Bool) → List X → ℕ → Type 0

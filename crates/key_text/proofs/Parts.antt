@@ -1,9 +1,9 @@
 -- The rows of a text that ends a line, and of the text after it.
-use Rattle.std.proofs.Common.{◌≡◌, ◌≢◌, ℕ, zero, suc, ◌+◌, ◌==◌, ◌≤◌, ◌&&◌, Bool, not, true, false, cond, IsTrue, List, [], ◌∷◌, ◌++◌, length, refl, sym, ap, ◌∙◌, subst, inl, inr, arith}
-use Rattle.std.proofs.lemmas.Bool.{false≢true}
-use Rattle.std.proofs.lemmas.Bool.Decides.{eqb_tells}
-use Rattle.key_text.proofs.Turns.{Ends, byte_turn, crlf, ends, len_with_backslash_some, lf, rows_from, rows_of_from}
-use Rattle.key_text.specs.Cut.{end_len, join_len, len_with_backslash, lf_len}
+use Rattle.std.proofs.Common.{◌≡◌, ◌≢◌, ℕ, zero, suc, ◌==◌, ◌≤◌, ◌&&◌, not, true, cond, IsTrue, List, [], ◌∷◌, ◌++◌, length, refl, sym, ap, ◌∙◌, subst, inl, inr, arith}
+use Rattle.std.proofs.lemmas.Bool.{and_parts, false≢true}
+use Rattle.std.proofs.lemmas.Bool.Decides.{eqb_tells, nat_tests}
+use Rattle.key_text.proofs.Turns.{Ends, byte_turn, crlf, ends, len_with_backslash_some, lf, no_line_feed, rows_from, rows_of_from}
+use Rattle.key_text.specs.Cut.{end_len, join_len, len_with_backslash}
 use Rattle.key_text.specs.Parted.{is_ended, is_line_end, place_after_text}
 use Rattle.key_text.specs.Rows.{Row, after, backslash, place_after, carriage_return, line_feed, next_line, put_at, row_of, rows_of, with_item}
 use Rattle.key_text.specs.declared.placed.Place.{Place}
@@ -14,37 +14,21 @@ pub record Parts (from here : Place) (text : List ℕ) : Type 0 where
   pub others : List Row
   pub same : (z : List ℕ) → rows_from from here (text ++ z) ≡ (first ∷ others) ++ rows_of (place_after_text here text) z
 
-and_right : (a b : Bool) → IsTrue (a && b) → b ≡ true
-and_right true b h = h
-and_right false b h = absurd (false≢true h)
-
 rest_ended : (b c : ℕ) (bs : List ℕ) → IsTrue (is_ended (b ∷ c ∷ bs)) → IsTrue (is_ended (c ∷ bs))
-rest_ended b c bs h = and_right (not (b == backslash && is_line_end (c ∷ bs))) (is_ended (c ∷ bs)) h
+rest_ended b c bs h = (and_parts (not (b == backslash && is_line_end (c ∷ bs))) (is_ended (c ∷ bs)) h).1
 
 end_alone : (b : ℕ) (bs z : List ℕ) → IsTrue (is_ended (b ∷ bs)) → end_len ((b ∷ bs) ++ z) ≡ end_len (b ∷ bs)
 end_alone b (c ∷ bs) z h = refl
-end_alone b [] z h = elim (eqb_tells b line_feed) [
-  | inl e ↦ ap (λ t. cond t 1 (cond (b == carriage_return) (lf_len z + lf_len z) 0)) e.0 ∙ sym (ap (λ t. cond t 1 (cond (b == carriage_return) 0 0)) e.0)
-  | inr e ↦ absurd (false≢true (sym e.0 ∙ h))
-]
+end_alone b [] z h = let feed : (b == line_feed) ≡ true = h in rw feed refl
 
 join_alone : (b : ℕ) (bs z : List ℕ) → IsTrue (is_ended (b ∷ bs)) → join_len (b ∷ bs) ≡ 0 → join_len ((b ∷ bs) ++ z) ≡ 0
 join_alone b (c ∷ bs) z h e = ap (λ n. cond (b == backslash) (len_with_backslash n) 0) (end_alone c bs z (rest_ended b c bs h)) ∙ e
-join_alone b [] z h e = elim (eqb_tells b backslash) [
-  | inl f ↦ absurd (false≢true (subst (λ (x : ℕ). (x == line_feed) ≡ true) f.1 h))
-  | inr f ↦ ap (λ t. cond t (len_with_backslash (end_len z)) 0) f.0
-]
+join_alone b [] z h e = let feed : (b == line_feed) ≡ true = h in grind (arith, nat_tests)
 
 -- no backslash stands before the text's last end
 not_last : (bs : List ℕ) → IsTrue (is_line_end bs) → IsTrue (is_ended (backslash ∷ bs)) → ⊥
 not_last [] h k = false≢true h
 not_last (c ∷ bs) h k = false≢true (sym (ap (λ t. not t && is_ended (c ∷ bs)) h) ∙ k)
-
-not_feed_at : (b : ℕ) (bs : List ℕ) → end_len (b ∷ bs) ≡ 0 → (b == line_feed) ≡ false
-not_feed_at b bs h = elim (eqb_tells b line_feed) [
-  | inl e ↦ absurd (let one : end_len (b ∷ bs) ≡ 1 = ap (λ t. cond t 1 (cond (b == carriage_return) (lf_len bs + lf_len bs) 0)) e.0 in omega (arith, one, h))
-  | inr e ↦ e.0
-]
 
 -- after a line's end comes nothing, or a text that ends a line
 parts_end : (from here : Place) (bs : List ℕ) → Ends bs → IsTrue (is_ended bs) → ((rest : List ℕ) → suc (length rest) ≤ length bs → IsTrue (is_ended rest) → (at : Place) → Parts at at rest) → Parts from here bs
@@ -84,10 +68,10 @@ parts_join from here bs (crlf (c ∷ cs)) h deeper =
     record { first = p.first; others = p.others; same = p.same }
 
 parts_byte : (from here : Place) (b : ℕ) (bs : List ℕ) → end_len (b ∷ bs) ≡ 0 → join_len (b ∷ bs) ≡ 0 → IsTrue (is_ended (b ∷ bs)) → (IsTrue (is_ended bs) → Parts (after here) (after here) bs) → Parts from here (b ∷ bs)
-parts_byte from here b [] e j h deeper = absurd (false≢true (sym (not_feed_at b [] e) ∙ h))
+parts_byte from here b [] e j h deeper = absurd (false≢true (sym (no_line_feed b [] e) ∙ h))
 parts_byte from here b (c ∷ cs) e j h deeper =
     let p = deeper (rest_ended b c cs h) in
-    let there : place_after here b ≡ after here = ap (λ t. cond t (next_line here) (after here)) (not_feed_at b (c ∷ cs) e) in
+    let there : place_after here b ≡ after here = ap (λ t. cond t (next_line here) (after here)) (no_line_feed b (c ∷ cs) e) in
     record {
       first = row_of (put_at here b ∷ (p.first).items) (p.first).end;
       others = p.others;

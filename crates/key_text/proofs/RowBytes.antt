@@ -1,37 +1,21 @@
 -- A row whose text has joins, up to its end.
-use Rattle.std.proofs.Common.{◌≡◌, ℕ, ◌+◌, ◌==◌, ◌&&◌, ◌||◌, Bool, not, true, false, cond, IsTrue, List, [], ◌∷◌, ◌++◌, append-nil, refl, sym, ap, ◌∙◌, subst, inl, inr}
-use Rattle.std.proofs.lemmas.Bool.{false≢true}
-use Rattle.std.proofs.lemmas.Bool.Decides.{eqb_tells}
+use Rattle.std.proofs.Common.{Bool, IsTrue, List, [], ap, append-nil, arith, cond, false, not, refl, subst, sym, true, ℕ, ◌++◌, ◌==◌, ◌||◌, ◌∙◌, ◌∷◌, ◌≡◌}
+use Rattle.std.proofs.lemmas.Bool.{and_parts, false≢true, not-true}
+use Rattle.std.proofs.lemmas.Bool.Decides.{nat_tests}
 use Rattle.key_text.proofs.HasWords.{HasRows, a_row, an_empty, no_row}
 use Rattle.key_text.proofs.Turns.{byte_turn, rows_from, rows_of_from, with_items, with_items_row}
 use Rattle.key_text.proofs.WordBytes.{spaced_words}
-use Rattle.key_text.specs.Cut.{end_len, join_len, len_with_backslash, lf_len}
+use Rattle.key_text.specs.Cut.{end_len, join_len, lf_len}
 use Rattle.key_text.specs.Rows.{Row, after, backslash, carriage_return, line_feed, next_line, put_at, row_of, rows_of, with_item}
 use Rattle.key_text.specs.Spelled.{IsEnd, Joined, Spells, byte, ended, crlf, end, is_row, join, join_crlf, last, last_empty, lf, nothing, row, row_empty}
 use Rattle.key_text.specs.Words.{bytes}
 use Rattle.key_text.specs.declared.placed.Place.{Place}
 use Rattle.key_text.specs.declared.placed.Placed.{Placed}
 
-and_left : (a b : Bool) → IsTrue (a && b) → a ≡ true
-and_left true b h = refl
-and_left false b h = absurd (false≢true h)
-
-and_right : (a b : Bool) → IsTrue (a && b) → b ≡ true
-and_right true b h = h
-and_right false b h = absurd (false≢true h)
-
-not-true : (a : Bool) → IsTrue (not a) → a ≡ false
-not-true true h = absurd (false≢true h)
-not-true false h = refl
-
-or_first : (a b c : Bool) → (a || b || c) ≡ false → a ≡ false
-or_first true b c h = absurd (false≢true (sym h))
-or_first false b c h = refl
-
 -- the first byte of a row is no line feed
 no_feed : (b : ℕ) (bs : List ℕ) → IsTrue (is_row (b ∷ bs)) → (b == line_feed) ≡ false
-no_feed b [] h = or_first (b == line_feed) (b == carriage_return) (b == backslash) (not-true (b == line_feed || b == carriage_return || b == backslash) h)
-no_feed b (c ∷ bs) h = not-true (b == line_feed) (and_left (not (b == line_feed)) (is_row (c ∷ bs)) h)
+no_feed b [] h = grind (arith, nat_tests)
+no_feed b (c ∷ bs) h = not-true (b == line_feed) ((and_parts (not (b == line_feed)) (is_row (c ∷ bs)) h).0)
 
 -- a row goes on after this byte
 abbrev goes_on : List ℕ → Bool
@@ -40,15 +24,11 @@ goes_on (b ∷ bs) = true
 
 rest_row : (b : ℕ) (bs : List ℕ) → IsTrue (is_row (b ∷ bs)) → IsTrue (is_row bs)
 rest_row b [] h = refl
-rest_row b (c ∷ bs) h = and_right (not (b == line_feed)) (is_row (c ∷ bs)) h
+rest_row b (c ∷ bs) h = (and_parts (not (b == line_feed)) (is_row (c ∷ bs)) h).1
 
 goes-on : (b : ℕ) (bs : List ℕ) → (b == carriage_return || b == backslash) ≡ true → IsTrue (is_row (b ∷ bs)) → IsTrue (goes_on bs)
 goes-on b (c ∷ bs) e h = refl
-goes-on b [] e h = absurd (false≢true (sym (no-end (b == line_feed) (b == carriage_return) (b == backslash) e) ∙ h))
-  where
-    no-end : (x y z : Bool) → (y || z) ≡ true → not (x || y || z) ≡ false
-    no-end true y z e = refl
-    no-end false y z e = ap not e
+goes-on b [] e h = grind (arith, nat_tests)
 
 no_feed_next : (bs text z : List ℕ) → Joined bs text → IsTrue (is_row bs) → IsTrue (goes_on bs) → lf_len (text ++ z) ≡ 0
 no_feed_next bs text z end h g = absurd (false≢true g)
@@ -56,35 +36,24 @@ no_feed_next bs text z (byte b cs t j) h g = ap (λ x. cond x 1 0) (no_feed b cs
 no_feed_next bs text z (join _ t j) h g = refl
 no_feed_next bs text z (join_crlf _ t j) h g = refl
 
+no_end_here : (b : ℕ) (bs text z : List ℕ) → Joined bs text → IsTrue (is_row (b ∷ bs)) → end_len (b ∷ text ++ z) ≡ 0
+no_end_here b bs text z j h =
+    let feed = no_feed b bs h in
+    let next : (b == carriage_return || b == backslash) ≡ true → lf_len (text ++ z) ≡ 0 =
+    λ e. no_feed_next bs text z j (rest_row b bs h) (goes-on b bs e h) in
+    grind (arith, nat_tests)
+
 no_end_next : (bs text z : List ℕ) → Joined bs text → IsTrue (is_row bs) → IsTrue (goes_on bs) → end_len (text ++ z) ≡ 0
 no_end_next bs text z end h g = absurd (false≢true g)
 no_end_next bs text z (join _ t j) h g = refl
 no_end_next bs text z (join_crlf _ t j) h g = refl
-no_end_next bs text z (byte b cs t j) h g = elim (eqb_tells b carriage_return) [
-  | inl e ↦
-      let none = no_feed_next cs t z j (rest_row b cs h) (goes-on b cs (ap (λ x. x || b == backslash) e.0) h) in
-      ap (λ x. cond x 1 (cond (b == carriage_return) (lf_len (t ++ z) + lf_len (t ++ z)) 0)) (no_feed b cs h)
-      ∙ ap (λ x. cond x (lf_len (t ++ z) + lf_len (t ++ z)) 0) e.0
-      ∙ ap (λ n. n + n) none
-  | inr e ↦
-      ap (λ x. cond x 1 (cond (b == carriage_return) (lf_len (t ++ z) + lf_len (t ++ z)) 0)) (no_feed b cs h)
-      ∙ ap (λ x. cond x (lf_len (t ++ z) + lf_len (t ++ z)) 0) e.0
-]
-
-no_end_here : (b : ℕ) (bs text z : List ℕ) → Joined bs text → IsTrue (is_row (b ∷ bs)) → end_len (b ∷ text ++ z) ≡ 0
-no_end_here b bs text z j h = no_end_next (b ∷ bs) (b ∷ text) z (byte b bs text j) h refl
-
-or_second : (a : Bool) → (a || true) ≡ true
-or_second true = refl
-or_second false = refl
+no_end_next bs text z (byte b cs t j) h g = no_end_here b cs t z j h
 
 no_join_here : (b : ℕ) (bs text z : List ℕ) → Joined bs text → IsTrue (is_row (b ∷ bs)) → join_len (b ∷ text ++ z) ≡ 0
-no_join_here b bs text z j h = elim (eqb_tells b backslash) [
-  | inl e ↦
-      let none = no_end_next bs text z j (rest_row b bs h) (goes-on b bs (ap (λ x. b == carriage_return || x) e.0 ∙ or_second (b == carriage_return)) h) in
-      ap (λ x. cond x (len_with_backslash (end_len (text ++ z))) 0) e.0 ∙ ap len_with_backslash none
-  | inr e ↦ ap (λ x. cond x (len_with_backslash (end_len (text ++ z))) 0) e.0
-]
+no_join_here b bs text z j h =
+    let next : (b == carriage_return || b == backslash) ≡ true → end_len (text ++ z) ≡ 0 =
+    λ e. no_end_next bs text z j (rest_row b bs h) (goes-on b bs e h) in
+    grind (arith, nat_tests)
 
 -- the bytes of the row were read, up to what follows it
 pub record Reads (from here : Place) (bs text z : List ℕ) : Type 0 where

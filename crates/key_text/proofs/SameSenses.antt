@@ -1,11 +1,11 @@
 -- Words that mean the same are read alike.
-use Rattle.std.proofs.Common.{◌≡◌, ℕ, suc, ◌+◌, ◌==◌, ◌&&◌, ◌||◌, ◌≤◌, Bool, not, true, false, cond, nat_le, nat_lt, nat_eq, IsTrue, Some, None, Result, Ok, Err, List, [], ◌∷◌, length, codes, drop, refl, sym, ap, ◌∙◌, subst, inl, inr, arith}
+use Rattle.std.proofs.Common.{◌≡◌, ℕ, suc, ◌+◌, ◌==◌, ◌&&◌, ◌||◌, ◌≤◌, Bool, not, true, false, cond, nat_le, nat_lt, nat_eq, IsTrue, Some, None, Result, Ok, Err, List, [], ◌∷◌, length, codes, drop, refl, sym, ap, ◌∙◌, subst, arith}
 use Rattle.std.specs.Prelude.{find}
-use Rattle.std.proofs.lemmas.Bool.{eq-eqb, false≢true, leb-true, ltb-false}
-use Rattle.std.proofs.lemmas.Bool.Decides.{eqb_tells}
+use Rattle.std.proofs.lemmas.Bool.{and_parts, and_right, eq-eqb, false≢true, leb-true, ne_eqb, not-true, or_parts}
+use Rattle.std.proofs.lemmas.Bool.Decides.{nat_tests}
 use Rattle.std.proofs.lemmas.List.{take_all}
 use Rattle.std.proofs.lemmas.Slice.Eq.{bytes_eq-Decides}
-use Rattle.std.specs.Char.{eq_ignore_ascii_case, to_ascii_lowercase}
+use Rattle.std.specs.Char.{eq_ignore_ascii_case}
 use Rattle.std.specs.List.{list_all, starts_with}
 use Rattle.std.specs.Option.{option_and_then, option_map, option_or}
 use Rattle.std.specs.Str.{bytes_eq, str_eq_ignore_ascii_case}
@@ -31,40 +31,20 @@ use Rattle.key_text.specs.declared.fault.KeyFault.{KeyFault}
 use Rattle.key_text.specs.declared.keymaps_line.TableRange.{TableRange}
 use Rattle.key_text.specs.declared.placed.Placed.{Placed}
 
-and_left : (a b : Bool) → (a && b) ≡ true → a ≡ true
-and_left true b h = refl
-and_left false b h = absurd (false≢true h)
-
-and_right : (a b : Bool) → (a && b) ≡ true → b ≡ true
-and_right true b h = h
-and_right false b h = absurd (false≢true h)
-
-not-true : (a : Bool) → not a ≡ true → a ≡ false
-not-true true h = absurd (false≢true h)
-not-true false h = refl
-
-or_left : (a b : Bool) → (a || b) ≡ false → a ≡ false
-or_left true b h = absurd (false≢true (sym h))
-or_left false b h = refl
-
-or_right : (a b : Bool) → (a || b) ≡ false → b ≡ false
-or_right true b h = absurd (false≢true (sym h))
-or_right false b h = h
-
 -- a word with neither comma nor dash is one range at most
 one_piece : (text : List ℕ) → IsTrue (is_single text) → pieces text ≡ text ∷ []
 one_piece [] h = refl
 one_piece (b ∷ bs) h =
-    let here = not-true (b == comma || b == dash) (and_left (not (b == comma || b == dash)) (is_single bs) h) in
-    ap (λ t. cond t ([] ∷ pieces bs) (with_byte b (pieces bs))) (or_left (b == comma) (b == dash) here)
-    ∙ ap (with_byte b) (one_piece bs (and_right (not (b == comma || b == dash)) (is_single bs) h))
+    let here = not-true (b == comma || b == dash) ((and_parts (not (b == comma || b == dash)) (is_single bs) h).0) in
+    ap (λ t. cond t ([] ∷ pieces bs) (with_byte b (pieces bs))) ((or_parts (b == comma) (b == dash) here).0)
+    ∙ ap (with_byte b) (one_piece bs ((and_parts (not (b == comma || b == dash)) (is_single bs) h).1))
 
 no_dash : (text : List ℕ) → IsTrue (is_single text) → before dash text ≡ length text
 no_dash [] h = refl
 no_dash (b ∷ bs) h =
-    let here = not-true (b == comma || b == dash) (and_left (not (b == comma || b == dash)) (is_single bs) h) in
-    ap (λ t. cond (not t) (1 + before dash bs) 0) (or_right (b == comma) (b == dash) here)
-    ∙ (let n = no_dash bs (and_right (not (b == comma || b == dash)) (is_single bs) h) in let e : 1 + before dash bs ≡ suc (length bs) = omega (arith, n) in e)
+    let here = not-true (b == comma || b == dash) ((and_parts (not (b == comma || b == dash)) (is_single bs) h).0) in
+    ap (λ t. cond (not t) (1 + before dash bs) 0) ((or_parts (b == comma) (b == dash) here).1)
+    ∙ (let n = no_dash bs ((and_parts (not (b == comma || b == dash)) (is_single bs) h).1) in let e : 1 + before dash bs ≡ suc (length bs) = omega (arith, n) in e)
 
 abbrev one_range : Result ℕ KeyFault → Result (List TableRange) KeyFault
 one_range read = read >>= λ low. Ok (range low low ∷ [])
@@ -100,11 +80,11 @@ tables_like v w h k e =
 -- what no quote begins is no quoted text
 no_double : (v : List Placed) → is_quoted v ≡ false → text_between 0x22 v ≡ None
 no_double [] h = refl
-no_double (p ∷ ps) h = ap (λ t. cond t (text_before_quote ps (close_at 0x22 false ps)) None) (or_left (p.byte == 0x22) (p.byte == 0x27) h)
+no_double (p ∷ ps) h = ap (λ t. cond t (text_before_quote ps (close_at 0x22 false ps)) None) ((or_parts (p.byte == 0x22) (p.byte == 0x27) h).0)
 
 no_single : (v : List Placed) → is_quoted v ≡ false → text_between 0x27 v ≡ None
 no_single [] h = refl
-no_single (p ∷ ps) h = ap (λ t. cond t (text_before_quote ps (close_at 0x27 false ps)) None) (or_right (p.byte == 0x22) (p.byte == 0x27) h)
+no_single (p ∷ ps) h = ap (λ t. cond t (text_before_quote ps (close_at 0x27 false ps)) None) ((or_parts (p.byte == 0x22) (p.byte == 0x27) h).1)
 
 no_text : (v : List Placed) → is_quoted v ≡ false → text_of v ≡ None
 unfolding text_of
@@ -128,37 +108,13 @@ like_name v w a b c = record {
 
 -- what a digit begins
 digit_low : (b : ℕ) → is_between 0x30 0x39 b ≡ true → 0x30 ≤ b
-digit_low b h = leb-true 0x30 b (and_left (nat_le 0x30 b) (nat_le b 0x39) h)
+digit_low b h = leb-true 0x30 b ((and_parts (nat_le 0x30 b) (nat_le b 0x39) h).0)
 
 digit_high : (b : ℕ) → is_between 0x30 0x39 b ≡ true → b ≤ 0x39
-digit_high b h = leb-true b 0x39 (and_right (nat_le 0x30 b) (nat_le b 0x39) h)
-
-apart : (n m : ℕ) → (n ≡ m → ⊥) → (n == m) ≡ false
-apart n m h = elim (eqb_tells n m) [
-  | inl e ↦ absurd (h e.1)
-  | inr e ↦ e.0
-]
-
-lower_digit : (b : ℕ) → b ≤ 0x39 → to_ascii_lowercase b ≡ b
-lower_digit b h = by_low (nat_lt b 65) refl
-  where
-    by_low : (t : Bool) → nat_lt b 65 ≡ t → cond t b (cond (nat_lt b 91) (b + 32) b) ≡ b
-    by_low true e = refl
-    by_low false e = absurd (let l = ltb-false b 65 e in omega (arith, l, h))
-
-lower_other : (t b : ℕ) → b ≤ 0x39 → to_ascii_lowercase t ≡ b → t ≡ b
-lower_other t b h e = by_low (nat_lt t 65) (nat_lt t 91) refl e
-  where
-    by_low : (x y : Bool) → nat_lt t 65 ≡ x → cond x t (cond y (t + 32) t) ≡ b → t ≡ b
-    by_low true y f g = g
-    by_low false false f g = g
-    by_low false true f g = absurd (let l = ltb-false t 65 f in omega (arith, l, g, h))
+digit_high b h = leb-true b 0x39 ((and_parts (nat_le 0x30 b) (nat_le b 0x39) h).1)
 
 digit_key : (b t : ℕ) → is_between 0x30 0x39 b ≡ true → is_between 0x30 0x39 t ≡ false → eq_ignore_ascii_case b t ≡ false
-digit_key b t h k = apart (to_ascii_lowercase b) (to_ascii_lowercase t) (λ e.
-    let low = lower_digit b (digit_high b h) in
-    let same : t ≡ b = lower_other t b (digit_high b h) (sym e ∙ low) in
-    false≢true (sym k ∙ ap (is_between 0x30 0x39) same ∙ h))
+digit_key b t h k = grind (arith, nat_tests)
 
 digit_word : (bs text : List ℕ) → IsTrue (begins_digit bs) → IsTrue (begins_key text) → str_eq_ignore_ascii_case bs text ≡ false
 digit_word [] text h k = absurd (false≢true h)
@@ -168,8 +124,8 @@ digit_word (b ∷ bs) (t ∷ text) h k = ap (λ x. x && str_eq_ignore_ascii_case
 digit_unquoted : (v : List Placed) → IsTrue (begins_digit (bytes v)) → is_quoted v ≡ false
 digit_unquoted [] h = refl
 digit_unquoted (p ∷ ps) h =
-    ap (λ t. t || p.byte == 0x27) (apart p.byte 0x22 (λ e. let l = digit_low p.byte h in omega (arith, l, e)))
-    ∙ apart p.byte 0x27 (λ e. let l = digit_low p.byte h in omega (arith, l, e))
+    ap (λ t. t || p.byte == 0x27) (ne_eqb p.byte 0x22 (λ e. let l = digit_low p.byte h in omega (arith, l, e)))
+    ∙ ne_eqb p.byte 0x27 (λ e. let l = digit_low p.byte h in omega (arith, l, e))
 
 -- no symbol of the table begins with a digit
 abbrev unlike : Symbol → Bool
@@ -183,24 +139,20 @@ not-listed_action : (rows : List Symbol) (text : List ℕ) → list_all unlike r
 not-listed_action [] text h k = refl
 not-listed_action (r ∷ rows) text h k =
     ap (λ t. option_map (λ (row : Symbol). row.act) (cond t (Some r) (find (λ row. bytes_eq row.name text) rows))) (other (bytes_eq r.name text) refl)
-    ∙ not-listed_action rows text (and_right (unlike r) (list_all unlike rows) h) k
+    ∙ not-listed_action rows text ((and_parts (unlike r) (list_all unlike rows) h).1) k
   where
     other : (t : Bool) → bytes_eq r.name text ≡ t → t ≡ false
-    other true e = absurd (false≢true (sym (not-true (begins_digit r.name) (and_left (unlike r) (list_all unlike rows) h)) ∙ ap begins_digit ((bytes_eq-Decides r.name text).0 e) ∙ k))
+    other true e = absurd (false≢true (sym (not-true (begins_digit r.name) ((and_parts (unlike r) (list_all unlike rows) h).0)) ∙ ap begins_digit ((bytes_eq-Decides r.name text).0 e) ∙ k))
     other false e = refl
 
 no_plus : (text : List ℕ) → IsTrue (begins_digit text) → starts_with nat_eq text (codes "+") ≡ false
 no_plus [] h = absurd (false≢true h)
-no_plus (b ∷ bs) h = ap (λ t. t && true) (apart 0x2B b (λ e. let l = digit_low b h in omega (arith, l, e)))
+no_plus (b ∷ bs) h = ap (λ t. t && true) (ne_eqb 0x2B b (λ e. let l = digit_low b h in omega (arith, l, e)))
 
 no_prefix : (text : List ℕ) → IsTrue (begins_digit text) → starts_with nat_eq text (codes "U+") ≡ false
 no_prefix [] h = absurd (false≢true h)
-no_prefix (b ∷ []) h = ap (λ t. t && false) (apart 0x55 b (λ e. let l = digit_high b h in omega (arith, l, e)))
-no_prefix (b ∷ c ∷ bs) h = ap (λ t. t && (nat_eq 0x2B c && true)) (apart 0x55 b (λ e. let l = digit_high b h in omega (arith, l, e)))
-
-and-false : (a : Bool) → (a && false) ≡ false
-and-false true = refl
-and-false false = refl
+no_prefix (b ∷ []) h = ap (λ t. t && false) (ne_eqb 0x55 b (λ e. let l = digit_high b h in omega (arith, l, e)))
+no_prefix (b ∷ c ∷ bs) h = ap (λ t. t && (nat_eq 0x2B c && true)) (ne_eqb 0x55 b (λ e. let l = digit_high b h in omega (arith, l, e)))
 
 digit_symbol : (text : List ℕ) → IsTrue (begins_digit text) → symbol text ≡ option_map (act CHARACTER) (option_and_then (number_if (λ n. nat_lt n 256)) (number_of text))
 unfolding symbol
@@ -211,7 +163,7 @@ digit_symbol text h =
   where
     no-point : code_point text ≡ None
     no-point = ap (λ t. cond t (option_and_then (number_if Rattle.key_syms.specs.Act.is_character) (Rattle.key_syms.specs.Numbers.number_in_base 16 (drop 2 text))) None)
-        (ap (λ t. length text == 6 && t) (no_prefix text h) ∙ and-false (length text == 6))
+        (ap (λ t. length text == 6 && t) (no_prefix text h) ∙ and_right (length text == 6) false refl)
 
 like_number : (n : ℕ) (v w : List Placed) → IsNumber n v → IsNumber n w → Like v w
 like_number n v w a b =

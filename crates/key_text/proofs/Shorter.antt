@@ -1,17 +1,10 @@
 -- The rest after a word is shorter than the text that begins with the word.
-use Rattle.std.proofs.Common.{◌≡◌, ℕ, suc, ◌-◌, ◌==◌, ◌≤◌, Bool, true, false, cond, Some, None, List, [], ◌∷◌, length, take, drop, refl, sym, ap, ◌∙◌, subst, inl, inr, arith}
-use Rattle.std.proofs.lemmas.Bool.{false≢true}
-use Rattle.std.proofs.lemmas.Bool.Decides.{eqb_tells}
+use Rattle.std.proofs.Common.{◌≡◌, ℕ, suc, ◌-◌, ◌==◌, ◌≤◌, Bool, true, false, cond, Some, None, List, [], ◌∷◌, length, take, drop, refl, sym, ap, subst, arith}
+use Rattle.std.proofs.lemmas.Bool.{eqb-false, false≢true}
 use Rattle.std.proofs.lemmas.List.{length-drop}
 use Rattle.std.specs.List.{prefix_len}
 use Rattle.key_text.specs.Words.{is_blank, word_at, word_len}
 use Rattle.key_text.specs.declared.placed.Placed.{Placed}
-
-not_zero : (n : ℕ) → (n == 0) ≡ false → 1 ≤ n
-not_zero n e = elim (eqb_tells n 0) [
-  | inl h ↦ absurd (false≢true (sym e ∙ h.0))
-  | inr h ↦ omega (arith, h.1)
-]
 
 behind : (n : ℕ) (p : Placed) (ps : List Placed) → 1 ≤ n → suc (length (drop n (p ∷ ps))) ≤ suc (length ps)
 behind n p ps some =
@@ -25,7 +18,7 @@ shorter_in [] v false e h = absurd (false≢true (sym e))
 shorter_in (p ∷ ps) v false e h =
     let n = word_len (p ∷ ps) in
     let same : drop n (p ∷ ps) ≡ v.1 = (let s : Some (take n (p ∷ ps), drop n (p ∷ ps)) ≡ Some v = h in let t : (take n (p ∷ ps), drop n (p ∷ ps)) ≡ v = cc in ap (λ (u : List Placed × List Placed). u.1) t) in
-    subst (λ (r : List Placed). suc (length r) ≤ suc (length ps)) same (behind n p ps (not_zero n e))
+    subst (λ (r : List Placed). suc (length r) ≤ suc (length ps)) same (behind n p ps (omega (arith, eqb-false n 0 e)))
 
 pub shorter : (i : List Placed) (v : List Placed × List Placed) → word_at i ≡ Some v → suc (length v.1) ≤ length i
 unfolding word_at

@@ -1,8 +1,7 @@
 -- Words that are compared with keywords, byte by byte.
-use Rattle.std.proofs.Common.{◌≡◌, ℕ, zero, suc, ◌+◌, ◌<◌, ◌≤◌, Bool, true, false, ◌&&◌, List, [], ◌∷◌, ◌++◌, length, get_or, set, take, drop, refl, sym, ap, ◌∙◌, arith}
-use Rattle.std.proofs.lemmas.List.{drop_all, drop_more, length-map, take_more, take_more_set}
-use Rattle.std.specs.Char.{eq_ignore_ascii_case}
-use Rattle.key_text.specs.Words.{bytes, is_word}
+use Rattle.std.proofs.Common.{◌≡◌, ℕ, zero, suc, ◌+◌, ◌<◌, List, [], ◌∷◌, ◌++◌, length, get_or, set, take, refl, sym, ap, ◌∙◌, arith}
+use Rattle.std.proofs.lemmas.List.{length-map, take_more, take_more_set}
+use Rattle.key_text.specs.Words.{bytes}
 use Rattle.key_text.specs.declared.placed.Placed.{Placed}
 
 -- the first bytes of a word that are copied

@@ -1,6 +1,6 @@
 -- One turn of the reading of a row: a line's end, a join, or another byte.
 use Rattle.std.proofs.Common.{◌≡◌, ◌≢◌, ℕ, ◌+◌, false, ◌==◌, ◌&&◌, cond, List, [], ◌∷◌, ◌++◌, drop, refl, sym, ap, ◌∙◌, subst, inl, inr, arith}
-use Rattle.std.proofs.lemmas.Bool.Decides.{eqb_tells}
+use Rattle.std.proofs.lemmas.Bool.Decides.{eqb_tells, nat_tests}
 use Rattle.key_text.specs.Cut.{end_len, join_len, len_with_backslash, lf_len}
 use Rattle.key_text.specs.Rows.{Row, after, begins_end, begins_lf, join_continuations, next_line, with_places, put_at, row_of, rows, rows_of, with_item}
 use Rattle.key_text.specs.declared.placed.Place.{Place}
@@ -76,59 +76,25 @@ join_turn end here (b ∷ bs) h = elim (eqb_tells b 92) [
   | inr e ↦ absurd (h (ap (λ t. cond t (len_with_backslash (end_len bs)) 0) e.0))
 ]
 
-one_not_zero : (n : ℕ) → n ≡ 1 → n ≡ 0 → ⊥
-one_not_zero n h k = omega arith
-
 no_lf : (at : Place) (bs : List ℕ) → lf_len bs ≡ 0 → begins_lf (with_places at bs) ≡ false
 no_lf at [] h = refl
-no_lf at (b ∷ bs) h = elim (eqb_tells b 10) [
-  | inl e ↦ let one : lf_len (b ∷ bs) ≡ 1 = ap (λ t. cond t 1 0) e.0 in absurd (one_not_zero (lf_len (b ∷ bs)) one h)
-  | inr e ↦ e.0
-]
-
-half_none : (n : ℕ) → n + n ≡ 0 → n ≡ 0
-half_none n h = omega arith
+no_lf at (b ∷ bs) h = grind (arith, nat_tests)
 
 no_end : (at : Place) (bs : List ℕ) → end_len bs ≡ 0 → begins_end (with_places at bs) ≡ false
 no_end at [] h = refl
-no_end at (b ∷ bs) h = elim (eqb_tells b 10) [
-  | inl e ↦ absurd (one_not_zero (end_len (b ∷ bs)) (ap (λ t. cond t 1 (cond (b == 13) (lf_len bs + lf_len bs) 0)) e.0) h)
-  | inr e ↦ elim (eqb_tells b 13) [
-    | inl f ↦
-        let two : end_len (b ∷ bs) ≡ lf_len bs + lf_len bs = ap (λ t. cond t 1 (cond (b == 13) (lf_len bs + lf_len bs) 0)) e.0 ∙ ap (λ t. cond t (lf_len bs + lf_len bs) 0) f.0 in
-        let none : lf_len bs ≡ 0 = half_none (lf_len bs) (sym two ∙ h) in
-        rw (e.0, f.0) (no_lf (after at) bs none)
-    | inr f ↦ rw (e.0, f.0) refl
-  ]
-]
+no_end at (b ∷ bs) h = grind (arith, nat_tests, no_lf (after at) bs)
 
-no_line_feed : (b : ℕ) (bs : List ℕ) → end_len (b ∷ bs) ≡ 0 → (b == 10) ≡ false
-no_line_feed b bs h = elim (eqb_tells b 10) [
-  | inl e ↦ absurd (one_not_zero (end_len (b ∷ bs)) (ap (λ t. cond t 1 (cond (b == 13) (lf_len bs + lf_len bs) 0)) e.0) h)
-  | inr e ↦ e.0
-]
+pub no_line_feed : (b : ℕ) (bs : List ℕ) → end_len (b ∷ bs) ≡ 0 → (b == 10) ≡ false
+no_line_feed b bs h = grind (arith, nat_tests)
 
 no_cr : (at : Place) (b : ℕ) (bs : List ℕ) → end_len (b ∷ bs) ≡ 0 → (b == 13 && begins_lf (with_places at bs)) ≡ false
-no_cr at b bs h = elim (eqb_tells b 13) [
-  | inl f ↦
-      let two : end_len (b ∷ bs) ≡ lf_len bs + lf_len bs = ap (λ t. cond t 1 (cond (b == 13) (lf_len bs + lf_len bs) 0)) (no_line_feed b bs h) ∙ ap (λ t. cond t (lf_len bs + lf_len bs) 0) f.0 in
-      rw f.0 (no_lf at bs (half_none (lf_len bs) (sym two ∙ h)))
-  | inr f ↦ rw f.0 refl
-]
+no_cr at b bs h = grind (arith, nat_tests, no_lf at bs)
 
 len_with_backslash_none : (n : ℕ) → len_with_backslash n ≡ 0 → n ≡ 0
-len_with_backslash_none n h = elim (eqb_tells n 0) [
-  | inl e ↦ e.1
-  | inr e ↦ let some : n + 1 ≡ 0 = sym (ap (λ t. cond t 0 (n + 1)) e.0) ∙ h in absurd (omega arith)
-]
+len_with_backslash_none n h = grind (arith, nat_tests)
 
 no_join : (at : Place) (b : ℕ) (bs : List ℕ) → join_len (b ∷ bs) ≡ 0 → (b == 92 && begins_end (with_places at bs)) ≡ false
-no_join at b bs h = elim (eqb_tells b 92) [
-  | inl f ↦
-      let none : end_len bs ≡ 0 = len_with_backslash_none (end_len bs) (sym (ap (λ t. cond t (len_with_backslash (end_len bs)) 0) f.0) ∙ h) in
-      rw f.0 (no_end at bs none)
-  | inr f ↦ rw f.0 refl
-]
+no_join at b bs h = grind (arith, nat_tests, no_end at bs, len_with_backslash_none (end_len bs))
 
 pub byte_turn : (end here : Place) (b : ℕ) (bs : List ℕ) → end_len (b ∷ bs) ≡ 0 → join_len (b ∷ bs) ≡ 0 → rows_from end here (b ∷ bs) ≡ with_item (put_at here b) (rows_from (after here) (after here) bs)
 byte_turn end here b bs h k =

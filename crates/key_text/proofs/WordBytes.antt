@@ -1,12 +1,12 @@
 -- The word that begins a row, by its bytes.
-use Rattle.std.proofs.Common.{◌≡◌, ℕ, zero, suc, ◌+◌, ◌==◌, ◌&&◌, ◌||◌, Bool, not, true, false, cond, IsTrue, IsFalse, Some, None, List, [], ◌∷◌, ◌++◌, length, take, drop, refl, sym, ap, ◌∙◌, subst, inl, inr, arith}
-use Rattle.std.proofs.lemmas.Bool.{eq-eqb, false≢true}
-use Rattle.std.proofs.lemmas.Bool.Decides.{eqb_tells}
+use Rattle.std.proofs.Common.{◌≡◌, ℕ, zero, suc, ◌+◌, ◌==◌, ◌||◌, Bool, true, false, cond, IsTrue, Some, None, List, [], ◌∷◌, ◌++◌, length, take, drop, refl, sym, ap, ◌∙◌, subst, arith}
+use Rattle.std.proofs.lemmas.Bool.{and_parts, eq-eqb, false≢true, not-true, or_parts}
+use Rattle.std.proofs.lemmas.Bool.Decides.{nat_tests}
 use Rattle.std.proofs.lemmas.List.{append_assoc, drop_at, length-append, take_at}
 use Rattle.std.specs.List.{list_all, prefix_len}
 use Rattle.std.specs.Option.{option_map, option_map_or}
-use Rattle.key_text.proofs.HasWords.{HasWords, moved, none_left, one_more}
-use Rattle.key_text.proofs.SameBytes.{bare, bares, close_bare, length-bare}
+use Rattle.key_text.proofs.HasWords.{HasWords, head_same, moved, none_left, one_more, tail_same}
+use Rattle.key_text.proofs.SameBytes.{bares, close_bare, length-bare}
 use Rattle.key_text.specs.Rows.{backslash}
 use Rattle.key_text.specs.Spelled.{Inside, IsWord, Spaced, is_apart, is_comment, blank, comment, empty, ended, escaped, plain, quoted, bare as bare_word, word}
 use Rattle.key_text.specs.Words.{bytes, close_at, is_bare, is_blank, is_quote, quoted_len, word_at, word_in, word_len}
@@ -39,35 +39,21 @@ word_len-bare i =
 
 apart_none : (bs : List ℕ) → IsTrue (is_apart bs) → prefix_len bare_test (bares bs) ≡ 0
 apart_none [] h = refl
-apart_none (b ∷ bs) h = by_bare (is_bare b) refl
-  where
-    by_bare : (t : Bool) → is_bare b ≡ t → prefix_len bare_test (bares (b ∷ bs)) ≡ 0
-    by_bare true e = absurd (false≢true (sym (ap not e) ∙ h))
-    by_bare false e = rw e refl
+apart_none (b ∷ bs) h = rw (not-true (is_bare b) h) refl
 
 run : (w bs : List ℕ) → IsTrue (list_all is_bare w) → IsTrue (is_apart bs) → prefix_len bare_test (bares (w ++ bs)) ≡ length w
 run [] bs all apart = apart_none bs apart
-run (b ∷ w) bs all apart = by_bare (is_bare b) refl (λ all'. run w bs all' apart)
-  where
-    by_bare : (t : Bool) → is_bare b ≡ t → (IsTrue (list_all is_bare w) → prefix_len bare_test (bares (w ++ bs)) ≡ length w) → prefix_len bare_test (bares (b ∷ w ++ bs)) ≡ suc (length w)
-    by_bare true e rest = (let n = rest (sym (ap (λ t. t && list_all is_bare w) e) ∙ all) in rw e (omega (arith, n)))
-    by_bare false e rest = absurd (false≢true (sym (ap (λ t. t && list_all is_bare w) e) ∙ all))
-
--- a quoted text closes at its last quote
-or-false : (a b : Bool) → IsFalse (a || b) → (a ≡ false) × (b ≡ false)
-or-false true b h = absurd (false≢true (sym h))
-or-false false b h = (refl, h)
+run (b ∷ w) bs all apart =
+    let parts = and_parts (is_bare b) (list_all is_bare w) all in
+    let n = run w bs parts.1 apart in rw parts.0 (omega (arith, n))
 
 not-backslash : (q : ℕ) → IsTrue (is_quote q) → (backslash == q) ≡ false
-not-backslash q h = elim (eqb_tells backslash q) [
-  | inl e ↦ absurd (false≢true (subst (λ (x : ℕ). is_quote x ≡ true) (sym e.1) h))
-  | inr e ↦ e.0
-]
+not-backslash q h = grind (arith, nat_tests)
 
 closes : (q : ℕ) (inside rest : List ℕ) → IsTrue (is_quote q) → Inside q inside → close_at q false (bares (inside ++ q ∷ rest)) ≡ Some (length inside)
 closes q inside rest h empty = rw (eq-eqb q q refl) refl
 closes q inside rest h (plain b bs f t) =
-    let no = or-false (b == q) (b == backslash) f in
+    let no = or_parts (b == q) (b == backslash) f in
     rw (no.0, no.1) (ap (option_map suc) (closes q bs rest h t))
 closes q inside rest h (escaped b bs t) =
     rw (not-backslash q h) (ap (λ n. option_map suc (option_map suc n)) (closes q bs rest h t))
@@ -106,31 +92,17 @@ bytes-drop (suc n) (p ∷ ps) = bytes-drop n ps
 
 -- a row that begins with a word has no blank first
 not-blank : (b : ℕ) → IsTrue (is_bare b) → is_blank b ≡ false
-not-blank b h = by_blank (is_blank b) refl
-  where
-    by_blank : (t : Bool) → is_blank b ≡ t → t ≡ false
-    by_blank true e = absurd (false≢true (sym (ap (λ t. not (t || b == 0x21 || b == 0x23)) e) ∙ h))
-    by_blank false e = refl
-
-and-true : (a b : Bool) → IsTrue (a && b) → a ≡ true
-and-true true b h = refl
-and-true false b h = absurd (false≢true h)
+not-blank b h = grind (arith, nat_tests)
 
 quote_not-blank : (q : ℕ) → IsTrue (is_quote q) → is_blank q ≡ false
-quote_not-blank q h = elim (eqb_tells q 0x22) [
-  | inl e ↦ subst (λ (x : ℕ). is_blank x ≡ false) (sym e.1) refl
-  | inr e ↦ elim (eqb_tells q 0x27) [
-    | inl f ↦ subst (λ (x : ℕ). is_blank x ≡ false) (sym f.1) refl
-    | inr f ↦ absurd (false≢true (sym (ap (λ t. t || q == 0x27) e.0 ∙ f.0) ∙ h))
-  ]
-]
+quote_not-blank q h = grind (arith, nat_tests)
 
 abbrev starts_blank : List ℕ → Bool
 starts_blank [] = true
 starts_blank (b ∷ bs) = is_blank b
 
 word_starts : (w bs : List ℕ) → IsWord w → starts_blank (w ++ bs) ≡ false
-word_starts w bs (bare_word b cs unquoted all) = not-blank b (and-true (is_bare b) (list_all is_bare cs) all)
+word_starts w bs (bare_word b cs unquoted all) = not-blank b ((and_parts (is_bare b) (list_all is_bare cs) all).0)
 word_starts w bs (quoted q inside tail h t all) = quote_not-blank q h
 
 no_blanks : (i : List Placed) → starts_blank (bytes i) ≡ false → drop (prefix_len (λ p. is_blank p.byte) i) i ≡ i
@@ -138,14 +110,8 @@ no_blanks [] h = refl
 no_blanks (p ∷ ps) h = rw h refl
 
 some_bytes : (w : List ℕ) → IsWord w → (length w == 0) ≡ false
-some_bytes w (bare_word b bs unquoted all) = elim (eqb_tells (suc (length bs)) 0) [
-  | inl e ↦ absurd (let h = e.1 in omega (arith, h))
-  | inr e ↦ e.0
-]
-some_bytes w (quoted q inside tail h t all) = elim (eqb_tells (suc (length (inside ++ q ∷ tail))) 0) [
-  | inl e ↦ absurd (let h = e.1 in omega (arith, h))
-  | inr e ↦ e.0
-]
+some_bytes w (bare_word b bs unquoted all) = grind (arith, nat_tests)
+some_bytes w (quoted q inside tail h t all) = grind (arith, nat_tests)
 
 pub first_word : (w bs : List ℕ) (i : List Placed) → IsWord w → IsTrue (is_apart bs) → bytes i ≡ w ++ bs → word_at i ≡ Some (take (length w) i, drop (length w) i)
 unfolding word_at
@@ -167,13 +133,11 @@ comment_byte p ps b e h = subst (λ (x : ℕ). word_at (record { byte = x; line 
 
 comment_at : (b line column : ℕ) (ps : List Placed) → IsTrue (b == 0x21 || b == 0x23) → word_at (record { byte = b; line = line; column = column } ∷ ps) ≡ None
 unfolding word_at
-comment_at b line column ps h = elim (eqb_tells b 0x21) [
-  | inl e ↦ subst (λ (x : ℕ). word_in (drop (prefix_len (λ p. is_blank p.byte) (record { byte = x; line = line; column = column } ∷ ps)) (record { byte = x; line = line; column = column } ∷ ps)) ≡ None) (sym e.1) refl
-  | inr e ↦ elim (eqb_tells b 0x23) [
-    | inl f ↦ subst (λ (x : ℕ). word_in (drop (prefix_len (λ p. is_blank p.byte) (record { byte = x; line = line; column = column } ∷ ps)) (record { byte = x; line = line; column = column } ∷ ps)) ≡ None) (sym f.1) refl
-    | inr f ↦ absurd (false≢true (sym (ap (λ t. t || b == 0x23) e.0 ∙ f.0) ∙ h))
-  ]
-]
+comment_at b line column ps h =
+    let blank : is_blank b ≡ false = grind (arith, nat_tests) in
+    let quote : is_quote b ≡ false = grind (arith, nat_tests) in
+    let bare : is_bare b ≡ false = grind (arith, nat_tests) in
+    rw (blank, quote, bare) refl
 
 pub no_word : word_at [] ≡ None
 unfolding word_at
@@ -183,24 +147,18 @@ nil-bytes : (i : List Placed) → bytes i ≡ [] → i ≡ []
 nil-bytes [] e = refl
 nil-bytes (p ∷ ps) e = absurd (let h : p.byte ∷ bytes ps ≡ [] = e in cc)
 
-head_byte : (b c : ℕ) (bs cs : List ℕ) → b ∷ bs ≡ c ∷ cs → b ≡ c
-head_byte b c bs cs e = cc
-
-tail_bytes : (b c : ℕ) (bs cs : List ℕ) → b ∷ bs ≡ c ∷ cs → bs ≡ cs
-tail_bytes b c bs cs e = cc
-
 -- a row has the words that its bytes spell
 blank_words : (b : ℕ) (ws : List (List ℕ)) (bs : List ℕ) (i : List Placed) → IsTrue (is_blank b) → bytes i ≡ b ∷ bs → ((j : List Placed) → bytes j ≡ bs → HasWords ws j) → HasWords ws i
 blank_words b ws bs [] h e rest = absurd (let k : [] ≡ b ∷ bs = e in cc)
 blank_words b ws bs (p ∷ ps) h e rest =
-    moved ws (p ∷ ps) ps (rest ps (tail_bytes p.byte b (bytes ps) bs e))
-    (blank_first p ps (subst (λ (x : ℕ). is_blank x ≡ true) (sym (head_byte p.byte b (bytes ps) bs e)) h))
+    moved ws (p ∷ ps) ps (rest ps (tail_same p.byte b (bytes ps) bs e))
+    (blank_first p ps (subst (λ (x : ℕ). is_blank x ≡ true) (sym (head_same p.byte b (bytes ps) bs e)) h))
 
 comment_words : (bs : List ℕ) (i : List Placed) → IsTrue (is_comment bs) → bytes i ≡ bs → HasWords [] i
 comment_words bs [] h e = none_left [] no_word
 comment_words [] (p ∷ ps) h e = absurd (false≢true h)
 comment_words (b ∷ bs) (p ∷ ps) h e =
-    none_left (p ∷ ps) (comment_byte p ps b (head_byte p.byte b (bytes ps) bs e) (comment_at b p.line p.column ps h))
+    none_left (p ∷ ps) (comment_byte p ps b (head_same p.byte b (bytes ps) bs e) (comment_at b p.line p.column ps h))
 
 pub spaced_words : (ws : List (List ℕ)) (bs : List ℕ) → Spaced ws bs → (i : List Placed) → bytes i ≡ bs → HasWords ws i
 spaced_words ws bs ended i e = none_left i (ap word_at (nil-bytes i e) ∙ no_word)

@@ -4,6 +4,7 @@ use Rattle.key_text.specs.View.{telling_of}
 use Rattle.key_text.specs.declared.statement.Statement.{Statement}
 use Rattle.key_text.specs.declared.statement.Statement.TheVariants as sayings
 
+-- a statement, by its content and not by the code's types
 abbrev pub statement_view : Statement → Said
 statement_view sayings.Nothing = nothing
 statement_view (sayings.Tells line) = tells (telling_of line.kind)

@@ -1,7 +1,7 @@
 //! Lines `keymaps`, with their ranges of tables.
 ghost use Rattle.std.specs.Prelude.{◌≡◌, ℕ, ◌<◌, ◌≤◌, ◌||◌, false, length, slice_index_or, replicate, IfOk, IsTrue};
 ghost use Rattle.key_text.specs.Fault.{Gives};
-ghost use Rattle.key_text.specs.Lines.{before, covers, in_order, keymaps_line, range_by, range_of, table_of, tables_in};
+ghost use Rattle.key_text.specs.Lines.{before, covers, keymaps_line, range_by, range_of, table_of, tables_in};
 ghost use Rattle.key_text.specs.Sayings.{statement_view};
 ghost use Rattle.key_text.specs.Tables.{is_table_set};
 
@@ -101,13 +101,6 @@ fn range_by(word: &[Placed], piece: &[u8], n: usize) -> Result<TableRange, KeyEr
         return Ok(TableRange { low, high: low });
     }
     let high = table_of(word, rest_of(piece, n + 1))?;
-    in_order(word, low, high)
-}
-
-fn in_order(word: &[Placed], low: u8, high: u8) -> Result<TableRange, KeyError>
-    ensures value { Gives (λ range. range) result (in_order word.now low high) }
-    ensures order { IfOk result (λ range. range.low ≤ range.high) }
-{
     if low <= high {
         return Ok(TableRange { low, high });
     }

@@ -67,7 +67,7 @@ pub(crate) fn next(
 }
 
 /// The next word and the rest of the row, whatever the word's bytes are.
-#[tactic(auto, unfolding(crate::specs::Words::word_at))]
+#[tactic(auto, unfolding(crate::specs::Words::word_at), using(crate::proofs::Lengths::prefixes_end))]
 pub(crate) fn word_at(items: &[Placed]) -> Option<(&[Placed], &[Placed])>
     ensures { option_map (λ w. (w.0.now, w.1.now)) result ≡ word_at items.now }
 {
@@ -111,8 +111,7 @@ fn valid_len(alloc: Global, word: &[Placed]) -> Result<usize, AllocError>
 }
 
 fn plain_len(items: &[Placed]) -> usize
-    ensures value { result ≡ prefix_len (λ p. nat_lt p.byte 128) items.now }
-    ensures within { result ≤ length items.now }
+    ensures { result ≡ prefix_len (λ p. nat_lt p.byte 128) items.now }
 {
     for i in 0..items.len() {
         if items[i].byte >= 128 {
@@ -123,8 +122,7 @@ fn plain_len(items: &[Placed]) -> usize
 }
 
 fn blank_len(items: &[Placed]) -> usize
-    ensures value { result ≡ prefix_len (λ p. is_blank p.byte) items.now }
-    ensures within { result ≤ length items.now }
+    ensures { result ≡ prefix_len (λ p. is_blank p.byte) items.now }
 {
     for i in 0..items.len() {
         if !is_blank(items[i].byte) {

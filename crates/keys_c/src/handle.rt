@@ -10,17 +10,17 @@ use std::mem;
 /// A keyboard as C holds it: a struct of one pointer, which is null or points to a keyboard that the handle owns.
 /// In contracts `value` is that keyboard, or `None`.
 #[repr(C)]
-pub struct KeysHandle {
+pub(crate) struct KeysHandle {
     at: *mut u8,
     alloc: Global,
     pub ghost value: { Option KeyboardView },
 }
 
 impl Model for KeysHandle {
-    ghost use Rattle.raw_box.specs.Held.{held};
+    ghost use Rattle.raw_box.specs.Contents.{contents};
     ghost use Rattle.keys_c.specs.contracts.keymap_keyboard.KeymapKeyboard.{the_row as keyboard_row};
 
-    ghost also_owns = { λ h. held keyboard_row h.alloc h.at h.value };
+    ghost also_owns = { λ h. contents keyboard_row h.alloc h.at h.value };
 }
 
 impl KeysHandle {

@@ -5,7 +5,7 @@ use key_text::KeyFault;
 /// The first fault of a keymap text: its line and column, both from 1, and its kind (docs/KEYS.md).
 #[repr(C)]
 #[derive(Clone, Copy, Debug, PartialEq, Eq)]
-pub struct VtFault {
+pub(crate) struct VtFault {
     pub line: u32,
     pub column: u32,
     pub kind: u16,

@@ -10,7 +10,7 @@ use key_machine::{ShortOut, mode};
 /// The result of a scan byte.
 #[repr(C)]
 #[derive(Drop)]
-pub struct VtKey {
+pub(crate) struct VtKey {
     /// 0 nothing, 1 bytes for the console's input, 2 a switch to the console of the number, 3 to the
     /// previous one, 4 to the next one, 5 to the one before by number, 6 KeyboardSignal, 7 SAK.
     pub kind: u8,

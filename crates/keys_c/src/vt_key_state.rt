@@ -6,7 +6,7 @@ use key_machine::KbState;
 /// A console's key state as C sees it.
 #[repr(C)]
 #[derive(Clone, Copy, Debug, PartialEq, Eq)]
-pub struct VtKeyState {
+pub(crate) struct VtKeyState {
     /// The keyboard mode: 0 K_RAW to 4 K_OFF.
     pub mode: u8,
     /// What Meta does: 3 K_METABIT, 4 K_ESCPREFIX.

@@ -6,7 +6,7 @@ use key_machine::KeyModes;
 /// The modes of a screen that keys depend on (console_codes(4)): DECCKM, DECPAM, DECARM and LNM. 0 is off.
 #[repr(C)]
 #[derive(Clone, Copy, Debug, PartialEq, Eq)]
-pub struct VtModes {
+pub(crate) struct VtModes {
     pub cursor_keys: u8,
     pub keypad: u8,
     pub repeat: u8,

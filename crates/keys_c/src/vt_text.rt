@@ -1,7 +1,7 @@
 /// A text that a keymap may include, and its name.
 #[repr(C)]
 #[derive(Drop)]
-pub struct VtText<'a> {
+pub(crate) struct VtText<'a> {
     pub name: &'a [u8],
     pub text: &'a [u8],
 }

@@ -104,24 +104,15 @@ fn step(kept: ScanPrefix, codes: &[u8; 256], b: u8) -> (Option<KeyEvent>, ScanPr
     ensures rest { bytes_of result.1 ≡ bytes_after (bytes_of kept) b }
 {
     match kept {
-        ScanPrefix::Nothing => first(codes, b),
+        ScanPrefix::Nothing => match b {
+            0xE0 => (None, ScanPrefix::E0),
+            0xE1 => (None, ScanPrefix::E1),
+            0xFF => (None, ScanPrefix::Nothing),
+            _ => (key(codes, b % 0x80, b < 0x80), ScanPrefix::Nothing),
+        },
         ScanPrefix::E0 => (key(codes, 0x80 + b % 0x80, b < 0x80), ScanPrefix::Nothing),
         ScanPrefix::E1 => (None, ScanPrefix::E1And(b)),
         ScanPrefix::E1And(before) => (pause(before, b), ScanPrefix::Nothing),
-    }
-}
-
-// The byte is the first one of a group.
-fn first(codes: &[u8; 256], b: u8) -> (Option<KeyEvent>, ScanPrefix)
-    requires { IsTranslation codes.now }
-    ensures event { result.0 ≡ event_after codes.now [] b }
-    ensures rest { bytes_of result.1 ≡ bytes_after [] b }
-{
-    match b {
-        0xE0 => (None, ScanPrefix::E0),
-        0xE1 => (None, ScanPrefix::E1),
-        0xFF => (None, ScanPrefix::Nothing),
-        _ => (key(codes, b % 0x80, b < 0x80), ScanPrefix::Nothing),
     }
 }
 

@@ -15,7 +15,7 @@ use types.Logic.{Logic}
 use Rattle.core.proofs.alloc.Calls.{Al, handle_tells}
 use Rattle.core.proofs.cell.Inside.{Good}
 use Rattle.raw_box.proofs.Parts.{pair}
-use Rattle.raw_box.specs.Held.{held}
+use Rattle.raw_box.specs.Contents.{contents}
 use Rattle.screen_c.specs.contracts.handle.ScreenHandle as handle
 use Rattle.screen_c.specs.contracts.owned_screen.OwnedScreen as owned
 use Rattle.std.proofs.alloc.Global.TheLaws as heap_laws
@@ -53,7 +53,7 @@ module _ {M : Type 1} {𝓤 : Ura M} {𝓛 : Logic 𝓤} {K : Type 0} {Γ : List
   -- taken apart: [what it holds; its allocator]
   pub apart : K → (d : Handle.Denot) (vs : List Val)
       → ((h : Val) → vs ≡ pair (ptr_val d.at) h ∷ [] → Good (layout Heap) h
-      → Seq K 𝓛 (‵ (held Owned d.alloc d.at d.value) ∷ ‵ (Heap.own_val d.alloc (h ∷ [])) ∷ Γ) G)
+      → Seq K 𝓛 (‵ (contents Owned d.alloc d.at d.value) ∷ ‵ (Heap.own_val d.alloc (h ∷ [])) ∷ Γ) G)
       → Seq K 𝓛 (‵ (Handle.own_val d vs) ∷ Γ) G
   apart t d vs next =
       fsplit t $ fpick t (λ parts. fsplit t $ feq_l t (λ whole. fsplit t $ feq_l t (λ pointer. fsplit t $
@@ -67,7 +67,7 @@ module _ {M : Type 1} {𝓤 : Ura M} {𝓛 : Logic 𝓤} {K : Type 0} {Γ : List
   -- put together: from [what it holds; its allocator]
   pub together : K → (p : Ptr) (h : Val) (a : Global) (x : Option Owned.Denot)
       → Step K 𝓛 (‵ (Handle.own_val (record { at = p; alloc = a; value = x }) (pair (ptr_val p) h ∷ [])) ∷ Γ) G
-      (‵ (held Owned a p x) ∷ ‵ (Heap.own_val a (h ∷ [])) ∷ Γ) G
+      (‵ (contents Owned a p x) ∷ ‵ (Heap.own_val a (h ∷ [])) ∷ Γ) G
   together t p h a x = step (λ rest.
       let v : Val = pair (ptr_val p) h in
       let d : Handle.Denot = record { at = p; alloc = a; value = x } in

@@ -17,10 +17,10 @@ pub struct ScreenHandle {
 }
 
 impl Model for ScreenHandle {
-    ghost use Rattle.raw_box.specs.Held.{held};
+    ghost use Rattle.raw_box.specs.Contents.{contents};
     ghost use Rattle.screen_c.specs.contracts.owned_screen.OwnedScreen.{the_row as screen_row};
 
-    ghost also_owns = { λ h. held screen_row h.alloc h.at h.value };
+    ghost also_owns = { λ h. contents screen_row h.alloc h.at h.value };
 }
 
 impl ScreenHandle {

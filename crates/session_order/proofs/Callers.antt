@@ -12,19 +12,15 @@ use Rattle.session_text.specs.Programs.{is_exit}
 use Rattle.vt_events.specs.Waits.{is_wait}
 use Rattle.vt_base.specs.Keyboards.{is_keyboard}
 use Rattle.vt_base.specs.declared.errno.Errno.{Errno}
-use Rattle.vt_base.specs.declared.errno.Errno.TheVariants as errno
 use Rattle.vt_events.specs.declared.event.Event.{Event}
-use Rattle.vt_events.specs.declared.event.Event.TheVariants as event
 use Rattle.vt_procs.specs.Callers.{Callers, caller_at, dead_process, is_live, no_caller}
 use Rattle.vt_procs.specs.Tickets.{after_signal, can_go, after_wait_report, is_open, waiting_after_report, after_idle_rule, waits, with_waiting}
 use Rattle.vt_procs.specs.declared.process.Process.{Process}
 use Rattle.vt_procs.specs.declared.ticket.Ticket.{Ticket}
 use Rattle.vt_procs.specs.declared.waiting.Waiting.{Waiting}
 use Rattle.vt_procs.specs.declared.waiting.Waiting.TheVariants.{Nothing, Open, Done, Broken}
-use Rattle.vt_switch.specs.Acts.{End}
+use Rattle.vt_switch.specs.Acts.{End, hop_of}
 use Rattle.vt_switch.specs.Moments.{core_after, hop_marks}
-use Rattle.vt_switch.specs.Acts.{hop_of}
-use Rattle.vt_switch.specs.declared.mark.Mark.TheVariants as mark
 use Rattle.vt_world.specs.Deeds.{apply_deeds}
 use Rattle.vt_world.specs.Heard.{without_marks, apply_mark, apply_marks}
 use Rattle.vt_world.specs.Events.{row}
@@ -32,6 +28,9 @@ use Rattle.vt_world.specs.Rows.{EventRow}
 use Rattle.vt_world.specs.State.{WorldState, core}
 use Rattle.vt_world.specs.Step.{Outcome, step}
 use Rattle.vt_world.specs.Refusals.{ends_wait, may_make}
+use Rattle.vt_base.specs.declared.errno.Errno.TheVariants as errno
+use Rattle.vt_events.specs.declared.event.Event.TheVariants as event
+use Rattle.vt_switch.specs.declared.mark.Mark.TheVariants as mark
 
 -- each caller with a ticket lives
 abbrev pub Sound : Callers → Type 0

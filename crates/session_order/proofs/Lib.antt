@@ -1,11 +1,9 @@
-pub mod Alive
 pub mod Callers
 pub mod Lively
 pub mod Meant
 pub mod Programs
 pub mod Races
 pub mod Progress
-pub mod Rounds
 pub mod Standings
 pub mod Starts
 pub mod Steps

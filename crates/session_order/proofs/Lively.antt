@@ -1,16 +1,14 @@
 -- The facts about callers that every play from a start keeps: a caller whose program is over is dead, a caller
 -- with a ticket has waitend as its next call, and if a caller waits, another caller can go on.
-use Rattle.std.proofs.Common.{◌≡◌, ℕ, ◌<◌, true, false, cond, ⊎_elim, List, [], ◌∷◌, ◌++◌, map, filter, Option, Some, None, refl, sym, ap, ◌∙◌, subst}
-use Rattle.std.proofs.lemmas.Bool.{and_parts, both_ways, cases_Bool, cases_eq, eq-eqb, false_from_ne_true, false≢true, ne_eqb, not-true, or_cases, or_from, and_right}
-use Rattle.std.proofs.lemmas.List.{append-nil, map-append}
-use Rattle.std.proofs.lemmas.List.Elements.{filter-append}
+use Rattle.std.proofs.Common.{◌≡◌, ℕ, ◌<◌, true, false, ⊎_elim, List, [], ◌∷◌, ◌++◌, Option, Some, None, refl, sym, ap, ◌∙◌, subst}
+use Rattle.std.proofs.lemmas.Bool.{and_parts, both_ways, cases_Bool, cases_eq, false_from_ne_true, false≢true, not-true, or_cases, or_from, and_right}
 use Rattle.std.proofs.lemmas.Option.{none-some, same_Some}
-use Rattle.std.specs.Prelude.{◌==◌, ◌&&◌, not}
+use Rattle.std.specs.Prelude.{◌&&◌, not}
 use Rattle.vt_world.proofs.Ages.{holds}
-use Rattle.session_order.proofs.Alive.{Walked, next_alive, walked_more}
 use Rattle.session_order.proofs.Callers.{Awake, Sound, Stepped, exit_kills, stepped, waitend_collects}
-use Rattle.session_order.proofs.Programs.{next_fine}
-use Rattle.session_order.proofs.Steps.{exit_never_waits, gone_dead, keyboard_never_waits}
+use Rattle.session_order.proofs.Programs.{Walked, next_alive, next_fine, walked_more}
+use Rattle.session_order.proofs.Standings.{calls_mine, calls_others}
+use Rattle.session_order.proofs.Steps.{answers}
 use Rattle.session_order.specs.Calls.{call_of, calls_by, next_by, next_of}
 use Rattle.session_text.specs.Programs.{Call, call, ends, is_exit, is_gone, is_kill, next, program_of}
 use Rattle.vt_base.specs.Keyboards.{is_keyboard}
@@ -19,14 +17,14 @@ use Rattle.vt_events.specs.Waits.{is_wait}
 use Rattle.session_text.specs.declared.program.Program.{Program}
 use Rattle.vt_events.specs.declared.entry.Entry.{Entry}
 use Rattle.vt_events.specs.declared.event.Event.{Event}
-use Rattle.vt_events.specs.declared.event.Event.TheVariants as event
 use Rattle.vt_events.specs.declared.reply.Reply.{Reply}
-use Rattle.vt_events.specs.declared.reply.Reply.TheVariants as reply
 use Rattle.vt_procs.specs.Callers.{Callers, caller_at, is_live}
 use Rattle.vt_procs.specs.Tickets.{is_open}
 use Rattle.vt_world.specs.State.{WorldState}
 use Rattle.vt_world.specs.Step.{step}
 use Rattle.vt_world.specs.Refusals.{ends_wait}
+use Rattle.vt_events.specs.declared.event.Event.TheVariants as event
+use Rattle.vt_events.specs.declared.reply.Reply.TheVariants as reply
 
 -- p has waitend next, and is no keyboard
 pub record HasWaitEnd (p : ℕ) (next : Option Event) : Type 0 where
@@ -45,28 +43,12 @@ pub record IsLively (programs : List Program) (h : List Entry) (c : Callers) : T
       (q : ℕ) (program : Program) → program_of programs q ≡ Some program
       → Walked (next program) (calls_by q h)
 
--- the calls of p after an entry of its own, and after one of another caller
-calls_mine : (h : List Entry) (entry : Entry) (p : ℕ) → (entry.caller == p) ≡ true
-    → calls_by p (h ++ entry ∷ []) ≡ calls_by p h ++ call_of entry ∷ []
-calls_mine h entry p mine =
-    ap (map call_of) (filter-append (λ (x : Entry). x.caller == p) h (entry ∷ [])
-    ∙ ap (λ b. filter (λ (x : Entry). x.caller == p) h ++ cond b (entry ∷ []) []) mine)
-    ∙ map-append call_of (filter (λ (x : Entry). x.caller == p) h) (entry ∷ [])
-
-calls_others : (h : List Entry) (entry : Entry) (p : ℕ) → (entry.caller == p) ≡ false
-    → calls_by p (h ++ entry ∷ []) ≡ calls_by p h
-calls_others h entry p other =
-    ap (map call_of) (filter-append (λ (x : Entry). x.caller == p) h (entry ∷ [])
-    ∙ ap (λ b. filter (λ (x : Entry). x.caller == p) h ++ cond b (entry ∷ []) []) other)
-    ∙ map-append call_of (filter (λ (x : Entry). x.caller == p) h) []
-    ∙ append-nil (calls_by p h)
-
 wait_not_gone : (r : Reply) → is_wait r ≡ true → is_gone r ≡ false
 wait_not_gone (reply.Err e) wait = absurd (false≢true wait)
 wait_not_gone r wait = refl
 
 -- a program that has a next call
-has_program : (program : Option Program) (made : List Call) (e : Event) → next_of program made ≡ Some e
+pub has_program : (program : Option Program) (made : List Call) (e : Event) → next_of program made ≡ Some e
     → (found : Program) × (program ≡ Some found) × (next found made ≡ Some e)
 has_program None made e is = absurd (none-some e is)
 has_program (Some found) made e is = (found, refl, is)
@@ -99,7 +81,7 @@ ending_dies programs h w p e lively now last =
     (λ gone.
     let parts : (not (is_kill e) ≡ true) × (is_gone (step w p e).reply ≡ true) =
     and_parts (not (is_kill e)) (is_gone (step w p e).reply) gone in
-    stays_dead (gone_dead w p e (not-true (is_kill e) parts.0) parts.1))
+    stays_dead ((answers w p e).gone (not-true (is_kill e) parts.0) parts.1))
     (or_cases (is_exit e) (not (is_kill e) && is_gone (step w p e).reply) last)
 
 -- a caller without a ticket that isn't answered wait, or that takes its ticket, has none afterwards
@@ -124,7 +106,7 @@ wait_goes_on : (w : WorldState) (p : ℕ) (e : Event) → is_wait (step w p e).r
 wait_goes_on w p e wait =
     let exit : is_exit e ≡ false =
     false_from_ne_true (is_exit e)
-    (λ is. both_ways (is_wait (step w p e).reply) (exit_never_waits w p e is) wait) in
+    (λ is. both_ways (is_wait (step w p e).reply) ((answers w p e).exit is) wait) in
     or_from (is_exit e) (not (is_kill e) && is_gone (step w p e).reply) exit
     (and_right (not (is_kill e)) (is_gone (step w p e).reply) (wait_not_gone (step w p e).reply wait))
 
@@ -145,9 +127,9 @@ lively_more programs h w p e entry lively now by is =
     let d : Callers = (step w p e).world.callers in
     let s : Stepped p w.callers (is_wait r) d = stepped w p e in
     let mine : (q : ℕ) → q ≡ p → calls_by q (h ++ entry ∷ []) ≡ calls_by q h ++ call e r ∷ [] =
-    λ q same. calls_mine h entry q (eq-eqb entry.caller q (by ∙ sym same)) ∙ ap (λ c. calls_by q h ++ c ∷ []) is in
+    λ q same. calls_mine h entry q (by ∙ sym same) ∙ ap (λ c. calls_by q h ++ c ∷ []) is in
     let others : (q : ℕ) → (q ≡ p → ⊥) → calls_by q (h ++ entry ∷ []) ≡ calls_by q h =
-    λ q apart. calls_others h entry q (ne_eqb entry.caller q (λ same. apart (sym same ∙ by))) in
+    λ q apart. calls_others h entry q (λ same. apart (sym same ∙ by)) in
     let dead : (q : ℕ) → is_live w.callers q ≡ false → is_live d q ≡ false =
     λ q gone. false_from_ne_true (is_live d q) (λ live. both_ways (is_live w.callers q) gone (s.live q live)) in
     let found : (program : Program) × (program_of programs p ≡ Some program) × (next program (calls_by p h) ≡ Some e) =
@@ -163,7 +145,7 @@ lively_more programs h w p e entry lively now by is =
     let wait : is_wait r ≡ true = holds_wait programs h w p e lively now held in
     record {
       waitend = next_mine ∙ (next_fine program).waits (calls_by p h) e r found.2 (wait_goes_on w p e wait) wait;
-      process = keyboard_never_waits w p e wait;
+      process = (answers w p e).keyboard wait;
     } in
     record {
       sound = s.sound lively.sound;

@@ -19,14 +19,14 @@ use Rattle.vt_events.specs.Charge.{charge_of}
 use Rattle.vt_events.specs.Plain.{plain_entry, plain_event, plain_reply}
 use Rattle.vt_events.specs.declared.entry.Entry.{Entry}
 use Rattle.vt_events.specs.declared.event.Event.{Event}
-use Rattle.vt_events.specs.declared.event.Event.TheVariants as event
 use Rattle.vt_events.specs.declared.reply.Reply.{Reply}
-use Rattle.vt_events.specs.declared.reply.Reply.TheVariants as reply
 use Rattle.vt_journal.specs.Log.{charge_of_all}
 use Rattle.vt_world.specs.History.{IsNext, replay}
 use Rattle.vt_world.specs.State.{WorldState}
 use Rattle.vt_world.specs.Step.{Outcome, step}
 use Rattle.vt_world.specs.Refusals.{ends_wait}
+use Rattle.vt_events.specs.declared.event.Event.TheVariants as event
+use Rattle.vt_events.specs.declared.reply.Reply.TheVariants as reply
 
 pub next-meant : NextIsMeant
 next-meant p made = (next_fine p).same made

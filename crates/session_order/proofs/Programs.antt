@@ -1,20 +1,18 @@
--- The next call of a program: the parts of answers that it doesn't depend on, and when there is one.
-use Rattle.std.proofs.Common.{◌≡◌, ℕ, Bool, true, false, List, [], ◌∷◌, ◌++◌, map, Option, Some, None, refl, ap, ◌∙◌, subst}
+-- The next call of a program: the parts of answers that it doesn't depend on, when there is one, and when the
+-- program is over.
+use Rattle.std.proofs.Common.{◌≡◌, ℕ, true, false, List, [], ◌∷◌, ◌++◌, map, Option, Some, None, refl, sym, ap, ◌∙◌, subst}
 use Rattle.std.proofs.lemmas.Option.{none-some, same_Some}
-use Rattle.std.specs.List.{range_with_len, cons_option}
-use Rattle.std.specs.Prelude.{⊤, ◌-◌, not, ◌&&◌, ◌||◌, filter_map, if◌then◌else◌}
+use Rattle.std.specs.Prelude.{⊤, ◌-◌, not, ◌&&◌, ◌||◌}
 use Rattle.sig_hooks.specs.declared.act.Act.{Act}
-use Rattle.sig_hooks.specs.declared.act.Act.TheVariants as acts
 use Rattle.session_order.specs.Calls.{as_meant}
-use Rattle.session_text.specs.Programs.{Call, act_at, act_call, all_calls, call, calls, calls_from, ends, exits, is_exit, is_gone, is_kill, next, nothing, scans, script, signals_in, takes}
+use Rattle.session_text.proofs.NextCalls.{Carries, behind_first, of_next, taken}
+use Rattle.session_text.specs.Programs.{Call, call, calls, ends, exits, is_exit, is_gone, is_kill, next, nothing, signals_in, takes}
 use Rattle.vt_events.specs.Waits.{is_wait}
 use Rattle.session_text.specs.declared.program.Program.{Program}
-use Rattle.session_text.specs.declared.program.Program.TheVariants as program
 use Rattle.vt_events.specs.Plain.{plain_event, plain_reply}
 use Rattle.vt_events.specs.declared.event.Event.{Event}
-use Rattle.vt_events.specs.declared.event.Event.TheVariants as event
 use Rattle.vt_events.specs.declared.reply.Reply.{Reply}
-use Rattle.vt_events.proofs.Meant.{plain-twice}
+use Rattle.vt_events.specs.declared.event.Event.TheVariants as event
 use Rattle.vt_events.specs.declared.reply.Reply.TheVariants as reply
 
 pub exit_plain : (e : Event) → is_exit (plain_event e) ≡ is_exit e
@@ -40,11 +38,6 @@ signals_plain r = refl
 ends_plain : (c : Call) → ends (as_meant c).event (as_meant c).reply ≡ ends c.event c.reply
 ends_plain c = λ i.
     exit_plain c.event i || (not (kill_plain c.event i) && gone_plain c.reply i)
-
--- the calls that follow the first call of a list: none, or waitend and the rest, or the rest
-abbrev pub behind_first : Bool → Bool → (List Call → Option Event) → List Call → Option Event
-behind_first over waits behind more =
-    if over then None else (if waits then calls event.WaitEnd behind more else behind more)
 
 -- how the next calls depend on those that were made: without spare room, and through waits
 pub record Fine (f : List Call → Option Event) : Type 0 where
@@ -105,87 +98,120 @@ calls_fine e behind is fine = record {
   waits = waits_calls e behind fine;
 }
 
--- each of these calls has no spare room
-abbrev ArePlain : List Event → Type 0
-ArePlain [] = ⊤
-ArePlain (e ∷ events) = (plain_event e ≡ e) × ArePlain events
-
-all_fine : (events : List Event) (behind : List Call → Option Event) → ArePlain events
-    → Fine behind → Fine (all_calls events behind)
-all_fine [] behind are fine = fine
-all_fine (e ∷ events) behind are fine =
-    calls_fine e (all_calls events behind) are.0 (all_fine events behind are.1 fine)
-
-act_plain : (a : Act) (events : List Event) → ArePlain events
-    → ArePlain (cons_option (act_call a) events)
-act_plain acts.Nothing events are = are
-act_plain (acts.Disp fd arg) events are = (refl, are)
-act_plain (acts.Put fd byte) events are = (refl, are)
-act_plain acts.Leave events are = (refl, are)
-
-acts_plain : (table : List Act) (set : ℕ) (signals : List ℕ)
-    → ArePlain (filter_map (λ n. act_call (act_at table set n)) signals)
-acts_plain table set [] = tt
-acts_plain table set (n ∷ signals) = act_plain (act_at table set n) _ (acts_plain table set signals)
-
-from_plain : (table : List Act) (set s : ℕ) → ArePlain (calls_from table set s)
-unfolding calls_from
-from_plain table set s = acts_plain table set (range_with_len s (65 - s))
-
--- the calls after the signals of a set were taken
-abbrev pub taken : List Act → (List Call → Option Event) → ℕ → List Call → Option Event
-taken table behind set = calls event.TakeSignals (all_calls (calls_from table set 1) behind)
-
-taken_fine : (table : List Act) (behind : List Call → Option Event) → Fine behind → (set : ℕ)
-    → Fine (taken table behind set)
-taken_fine table behind fine set =
-    calls_fine event.TakeSignals (all_calls (calls_from table set 1) behind) refl
-    (all_fine (calls_from table set 1) behind (from_plain table set 1) fine)
-
-takes_same : (table : List Act) (behind : List Call → Option Event) → Fine behind
+takes_same : (table : List Act) (behind : List Call → Option Event) → ((set : ℕ) → Fine (taken table behind set))
     → (made : List Call) → takes table behind (map as_meant made) ≡ takes table behind made
-takes_same table behind fine [] = refl
-takes_same table behind fine (c ∷ made) =
+takes_same table behind each [] = refl
+takes_same table behind each (c ∷ made) =
     ap (λ set. taken table behind set (map as_meant (c ∷ made))) (signals_plain c.reply)
-    ∙ (taken_fine table behind fine (signals_in c.reply)).same (c ∷ made)
+    ∙ (each (signals_in c.reply)).same (c ∷ made)
 
-takes_plain : (table : List Act) (behind : List Call → Option Event) → Fine behind
+takes_plain : (table : List Act) (behind : List Call → Option Event) → ((set : ℕ) → Fine (taken table behind set))
     → (made : List Call) (e : Event) → takes table behind made ≡ Some e → plain_event e ≡ e
-takes_plain table behind fine [] e is =
+takes_plain table behind each [] e is =
     subst (λ x. plain_event x ≡ x) (same_Some event.TakeSignals e is) refl
-takes_plain table behind fine (c ∷ made) e is =
-    (taken_fine table behind fine (signals_in c.reply)).plain (c ∷ made) e is
+takes_plain table behind each (c ∷ made) e is =
+    (each (signals_in c.reply)).plain (c ∷ made) e is
 
-takes_waits : (table : List Act) (behind : List Call → Option Event) → Fine behind
+takes_waits : (table : List Act) (behind : List Call → Option Event) → ((set : ℕ) → Fine (taken table behind set))
     → (made : List Call) (e : Event) (r : Reply) → takes table behind made ≡ Some e
     → ends e r ≡ false → is_wait r ≡ true
     → takes table behind (made ++ call e r ∷ []) ≡ Some event.WaitEnd
-takes_waits table behind fine [] e r is going wait =
-    (taken_fine table behind fine (signals_in r)).waits [] e r is going wait
-takes_waits table behind fine (c ∷ made) e r is going wait =
-    (taken_fine table behind fine (signals_in c.reply)).waits (c ∷ made) e r is going wait
+takes_waits table behind each [] e r is going wait =
+    (each (signals_in r)).waits [] e r is going wait
+takes_waits table behind each (c ∷ made) e r is going wait =
+    (each (signals_in c.reply)).waits (c ∷ made) e r is going wait
 
-takes_fine : (table : List Act) (behind : List Call → Option Event) → Fine behind
-    → Fine (takes table behind)
-takes_fine table behind fine = record {
-  same = takes_same table behind fine;
-  plain = takes_plain table behind fine;
-  waits = takes_waits table behind fine;
+fine_carries : Carries Fine
+fine_carries = record {
+  exit = calls_fine event.Exit nothing refl nothing_fine;
+  first = calls_fine;
+  handlers = λ table behind each. record {
+    same = takes_same table behind each;
+    plain = takes_plain table behind each;
+    waits = takes_waits table behind each;
+  };
 }
 
-exits_fine : Fine exits
-exits_fine = calls_fine event.Exit nothing refl nothing_fine
-
-script_fine : (table : List Act) (items : List Event) → Fine (script table items)
-script_fine table [] = exits_fine
-script_fine table (item ∷ items) =
-    calls_fine (plain_event item) (takes table (script table items)) (plain-twice item)
-    (takes_fine table (script table items) (script_fine table items))
-
-scans_fine : (bytes : List ℕ) → Fine (scans bytes)
-scans_fine [] = exits_fine
-scans_fine (b ∷ bytes) = calls_fine (event.Scan b) (scans bytes) refl (scans_fine bytes)
-
 pub next_fine : (p : Program) → Fine (next p)
-next_fine (program.Keys bytes) = scans_fine bytes.bytes
-next_fine (program.Script items table) = script_fine table items.events
+next_fine p = of_next Fine fine_carries p
+
+-- each of these calls was the next one after those before it
+abbrev pub Walked : (List Call → Option Event) → List Call → Type 0
+Walked f [] = ⊤
+Walked f (c ∷ made) = (f [] ≡ Some c.event) × Walked (λ more. f (c ∷ more)) made
+
+pub walked_more : (f : List Call → Option Event) (made : List Call) (e : Event) (r : Reply)
+    → Walked f made → f made ≡ Some e → Walked f (made ++ call e r ∷ [])
+walked_more f [] e r walked is = (is, tt)
+walked_more f (c ∷ made) e r walked is =
+    (walked.0, walked_more (λ more. f (c ∷ more)) made e r walked.1 is)
+
+-- the next calls go on until one ends them
+pub record Alive (f : List Call → Option Event) : Type 0 where
+  pub starts : f [] ≡ None → ⊥
+  pub goes :
+      (made : List Call) (e : Event) (r : Reply) → Walked f made → f made ≡ Some e
+      → f (made ++ call e r ∷ []) ≡ None → ends e r ≡ true
+
+some_none : (e : Event) → Some e ≡ None → ⊥
+some_none e is = none-some e (sym is)
+
+goes_calls : (e : Event) (behind : List Call → Option Event) → Alive behind → (made : List Call)
+    (next : Event) (r : Reply) → Walked (calls e behind) made → calls e behind made ≡ Some next
+    → calls e behind (made ++ call next r ∷ []) ≡ None → ends next r ≡ true
+goes_calls e behind alive [] next r = λ walked here.
+    elim (ends next r) as (λ b. behind_first b (is_wait r) behind [] ≡ None → b ≡ true) [
+      | true ↦ λ none. refl
+      | false ↦ elim (is_wait r) as (λ b. behind_first false b behind [] ≡ None → false ≡ true) [
+        | true ↦ λ none. absurd (some_none event.WaitEnd none)
+        | false ↦ λ none. absurd (alive.starts none)
+      ]
+    ]
+goes_calls e behind alive (c ∷ made) next r = λ walked.
+    (elim (ends c.event c.reply) as (λ b. Walked (λ more. behind_first b (is_wait c.reply) behind more) made → behind_first b (is_wait c.reply) behind made ≡ Some next → behind_first b (is_wait c.reply) behind (made ++ call next r ∷ []) ≡ None → ends next r ≡ true) [
+      | true ↦ λ more here none. absurd (none-some next here)
+      | false ↦ elim (is_wait c.reply) as (λ b. Walked (λ more. behind_first false b behind more) made → behind_first false b behind made ≡ Some next → behind_first false b behind (made ++ call next r ∷ []) ≡ None → ends next r ≡ true) [
+        | true ↦ goes_calls event.WaitEnd behind alive made next r
+        | false ↦ alive.goes made next r
+      ]
+    ])
+    walked.1
+
+calls_alive : (e : Event) (behind : List Call → Option Event) → plain_event e ≡ e → Alive behind
+    → Alive (calls e behind)
+calls_alive e behind is alive = record {
+  starts = some_none e;
+  goes = goes_calls e behind alive;
+}
+
+goes_exits : (made : List Call) (e : Event) (r : Reply) → Walked exits made → exits made ≡ Some e
+    → exits (made ++ call e r ∷ []) ≡ None → ends e r ≡ true
+goes_exits [] e r walked here none =
+    subst (λ x. ends x r ≡ true) (same_Some event.Exit e here) refl
+goes_exits (c ∷ made) e r walked here none =
+    let last : ends c.event c.reply ≡ true =
+    subst (λ x. ends x c.reply ≡ true) (same_Some event.Exit c.event walked.0) refl in
+    let over : exits (c ∷ made) ≡ None =
+    ap (λ b. behind_first b (is_wait c.reply) nothing made) last in
+    absurd (none-some e (sym over ∙ here))
+
+exits_alive : Alive exits
+exits_alive = record { starts = some_none event.Exit; goes = goes_exits }
+
+goes_takes : (table : List Act) (behind : List Call → Option Event) → ((set : ℕ) → Alive (taken table behind set))
+    → (made : List Call) (e : Event) (r : Reply) → Walked (takes table behind) made
+    → takes table behind made ≡ Some e → takes table behind (made ++ call e r ∷ []) ≡ None
+    → ends e r ≡ true
+goes_takes table behind each [] e r = (each (signals_in r)).goes [] e r
+goes_takes table behind each (c ∷ made) e r = (each (signals_in c.reply)).goes (c ∷ made) e r
+
+alive_carries : Carries Alive
+alive_carries = record {
+  exit = exits_alive;
+  first = calls_alive;
+  handlers = λ table behind each.
+      record { starts = some_none event.TakeSignals; goes = goes_takes table behind each };
+}
+
+pub next_alive : (p : Program) → Alive (next p)
+next_alive p = of_next Alive alive_carries p

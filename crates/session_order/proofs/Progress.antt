@@ -7,10 +7,9 @@ use Rattle.std.proofs.lemmas.Option.{none-some, slice_get_within}
 use Rattle.std.specs.List.{list_all, list_any, range_with_len}
 use Rattle.std.specs.Prelude.{◌==◌, nat_lt, not, is_some, slice_get, if◌then◌else◌}
 use Rattle.vt_world.proofs.Ages.{holds}
-use Rattle.session_order.proofs.Alive.{next_alive}
 use Rattle.session_order.proofs.Lively.{IsLively, Now, lively_more}
-use Rattle.session_order.proofs.Rounds.{finished_stays, is_none_none}
-use Rattle.session_order.proofs.Turns.{Enters, FindsFull, Goes, Skips, TurnDoes, event_plain, goes_nothing, reply_plain, turn_does, turns_go}
+use Rattle.session_order.proofs.Programs.{next_alive}
+use Rattle.session_order.proofs.Turns.{Enters, FindsFull, Goes, Skips, TurnDoes, event_plain, finished_stays, goes_nothing, is_none_none, turn_does, turns_go}
 use Rattle.session_order.specs.Calls.{all_over, is_none, next_by, next_of}
 use Rattle.session_order.specs.Ends.{Setup}
 use Rattle.session_order.specs.Follows.{is_waiting}
@@ -32,60 +31,46 @@ use Rattle.vt_procs.specs.declared.waiting.Waiting.TheVariants.{Nothing}
 use Rattle.vt_world.specs.History.{replay}
 use Rattle.vt_world.specs.State.{WorldState}
 use Rattle.vt_world.specs.Step.{step}
+use Rattle.session_order.proofs.Steps.{answers}
 
--- a caller at the start
-start_at : (keyboards : ℕ) (starts : List ProcStart) (q : ℕ)
-    → ((q < every_caller) × (caller_at (callers_of keyboards starts) q ≡ caller_at_start keyboards starts q))
-    ⊎ (caller_at (callers_of keyboards starts) q ≡ no_caller)
-start_at keyboards starts q = ⊎_elim
-    (λ within. inl
-    (within, get_or-map-range_with_len (caller_at_start keyboards starts) 0 68 q q no_caller within (omega arith)))
-    (λ past. inr (get_or_past (map (caller_at_start keyboards starts) (range_with_len 0 68)) q no_caller
-    (omega (arith, past, length-map-range_with_len (caller_at_start keyboards starts) 0 68))))
-    (cases_lt q 68)
+-- a caller at the start has no ticket, and if it lives, it has a number of a caller and a program
+record Begins (programs : List Program) (q : ℕ) (a : Process) : Type 0 where
+  free : a.waiting ≡ Nothing
+  known : a.live ≡ true → (q < every_caller) × (is_some (program_of programs q) ≡ true)
 
-starting_free : (keyboards q : ℕ) (first further : Bool) (start : Option ProcStart)
-    → (if first then keyboard keyboards 0 else if further then keyboard keyboards (q - 64) else caller_of start).waiting ≡ Nothing
-starting_free keyboards q true further start = refl
-starting_free keyboards q false true start = refl
-starting_free keyboards q false false None = refl
-starting_free keyboards q false false (Some start) = refl
-
--- each caller that lives at the start has a program
-starting_lives : (keyboards : ℕ) (starts : List ProcStart) (programs : List Program) (q : ℕ)
+begins_by : (keyboards : ℕ) (starts : List ProcStart) (programs : List Program) (q : ℕ)
     (first further : Bool) (start : Option ProcStart) → ArePrograms (length starts) keyboards programs
-    → (q == 0) ≡ first → nat_lt 64 q ≡ further → slice_get starts (q - 1) ≡ start
-    → (if first then keyboard keyboards 0 else if further then keyboard keyboards (q - 64) else caller_of start).live ≡ true
-    → is_some (program_of programs q) ≡ true
-starting_lives keyboards starts programs q true further start are first high here live =
-    ap (λ p. is_some (program_of programs p)) (eqb-true q 0 first)
-    ∙ some_first (length starts) keyboards programs are
-starting_lives keyboards starts programs q false true start are first high here live =
-    some_keyboard (length starts) keyboards programs are q high ∙ live
-starting_lives keyboards starts programs q false false None are first low here live = absurd (false≢true live)
-starting_lives keyboards starts programs q false false (Some start) are first low here live =
-    some_process (length starts) keyboards programs are q (eqb-false q 0 first) low
-    ∙ lt-ltb (q - 1) (length starts) (slice_get_within starts (q - 1) start here)
+    → q < every_caller → (q == 0) ≡ first → nat_lt 64 q ≡ further → slice_get starts (q - 1) ≡ start
+    → Begins programs q (if first then keyboard keyboards 0 else if further then keyboard keyboards (q - 64) else caller_of start)
+begins_by keyboards starts programs q true further start are within first high here = record {
+  free = refl;
+  known = λ live.
+      (within, ap (λ p. is_some (program_of programs p)) (eqb-true q 0 first) ∙ some_first (length starts) keyboards programs are);
+}
+begins_by keyboards starts programs q false true start are within first high here = record {
+  free = refl;
+  known = λ live. (within, some_keyboard (length starts) keyboards programs are q high ∙ live);
+}
+begins_by keyboards starts programs q false false None are within first low here =
+    record { free = refl; known = λ live. absurd (false≢true live) }
+begins_by keyboards starts programs q false false (Some start) are within first low here = record {
+  free = refl;
+  known = λ live.
+      (within, some_process (length starts) keyboards programs are q (eqb-false q 0 first) low ∙ lt-ltb (q - 1) (length starts) (slice_get_within starts (q - 1) start here));
+}
 
-start_free : (keyboards : ℕ) (starts : List ProcStart) (q : ℕ)
-    → (caller_at (callers_of keyboards starts) q).waiting ≡ Nothing
-start_free keyboards starts q = ⊎_elim
-    (λ here. ap (λ (a : Process). a.waiting) here.1
-    ∙ starting_free keyboards q (q == 0) (nat_lt 64 q) (slice_get starts (q - 1)))
-    (λ none. ap (λ (a : Process). a.waiting) none) (start_at keyboards starts q)
-
--- each number that lives at the start is a caller's, and has a program
-start_known : (keyboards : ℕ) (starts : List ProcStart) (programs : List Program) (q : ℕ)
-    → ArePrograms (length starts) keyboards programs → is_live (callers_of keyboards starts) q ≡ true
-    → (q < every_caller) × (is_some (program_of programs q) ≡ true)
-start_known keyboards starts programs q are live = ⊎_elim
-    (λ here. (
-      here.0,
-      starting_lives keyboards starts programs q (q == 0) (nat_lt 64 q) (slice_get starts (q - 1)) are refl refl refl
-          (subst (λ (a : Process). a.live ≡ true) here.1 live),
-    ))
-    (λ none. absurd (false≢true (subst (λ (a : Process). a.live ≡ true) none live)))
-    (start_at keyboards starts q)
+begins : (keyboards : ℕ) (starts : List ProcStart) (programs : List Program) (q : ℕ)
+    → ArePrograms (length starts) keyboards programs
+    → Begins programs q (caller_at (callers_of keyboards starts) q)
+begins keyboards starts programs q are =
+    let at : ℕ → Process = caller_at_start keyboards starts in
+    ⊎_elim
+    (λ within. subst (Begins programs q) (sym (get_or-map-range_with_len at 0 68 q q no_caller within (omega arith)))
+    (begins_by keyboards starts programs q (q == 0) (nat_lt 64 q) (slice_get starts (q - 1)) are within refl refl refl))
+    (λ past. subst (Begins programs q)
+    (sym (get_or_past (map at (range_with_len 0 68)) q no_caller (omega (arith, past, length-map-range_with_len at 0 68))))
+    (record { free = refl; known = λ live. absurd (false≢true live) }))
+    (cases_lt q 68)
 
 -- a program has a first call
 has_next : (program : Option Program) → (next_of program [] ≡ None) → program ≡ None
@@ -96,17 +81,17 @@ lively_start : (programs : List Program) (keyboards : ℕ) (starts : List ProcSt
     → ArePrograms (length starts) keyboards programs → IsLively programs [] (callers_of keyboards starts)
 lively_start programs keyboards starts are =
     let c : Callers = callers_of keyboards starts in
+    let at : (q : ℕ) → Begins programs q (caller_at c q) = λ q. begins keyboards starts programs q are in
     let none_holds : (q : ℕ) → holds (caller_at c q).waiting ≡ true → ⊥ =
-    λ q held. both_ways (holds (caller_at c q).waiting) (ap holds (start_free keyboards starts q)) held in
+    λ q held. both_ways (holds (caller_at c q).waiting) (ap holds (at q).free) held in
     record {
       sound = λ q held. absurd (none_holds q held);
-      awake = inr (λ q. ap is_open (start_free keyboards starts q));
-      known = λ q live. (start_known keyboards starts programs q are live).0;
+      awake = inr (λ q. ap is_open (at q).free);
+      known = λ q live. ((at q).known live).0;
       over = λ q none. false_from_ne_true (is_live c q)
           (λ live.
-          let missing : program_of programs q ≡ None = has_next (program_of programs q) none in
-          both_ways (is_some (program_of programs q)) (ap is_some missing)
-          (start_known keyboards starts programs q are live).1);
+          both_ways (is_some (program_of programs q)) (ap is_some (has_next (program_of programs q) none))
+          ((at q).known live).1);
       waits = λ q held. absurd (none_holds q held);
       walked = λ q program is. tt;
     }
@@ -130,7 +115,7 @@ lives_turn o p h _ (Enters e shut next room) lives =
     let now : Now o.programs h w p e = record { next = next; shut = shut } in
     subst (λ (x : WorldState). IsLively o.programs (h ++ entry ∷ []) x.callers) (sym (replay_more o.start h entry))
     (lively_more o.programs h w p e entry lives now refl
-    (λ i. call (event_plain o.programs p h e next i) (reply_plain w p e i)))
+    (λ i. call (event_plain o.programs p h e next i) ((answers w p e).plain i)))
 lives_turn o p h _ (FindsFull e shut next none) lives = lives
 
 turn_lives : (o : Setup) (p : ℕ) (h : List Entry) (stop : Option Full) → Lives o h

@@ -1,10 +1,10 @@
 -- A race whose callers have all ended follows the programs and ends.
-use Rattle.std.proofs.Common.{◌≡◌, ℕ, ◌+◌, ◌<◌, zero, suc, Bool, true, ⊎_elim, arith, List, [], ◌∷◌, cond, filter, take, map, Option, Some, None, refl, sym, ap, ◌∙◌}
+use Rattle.std.proofs.Common.{◌≡◌, ℕ, ◌+◌, ◌<◌, zero, suc, Bool, true, ⊎_elim, arith, List, [], ◌∷◌, filter, take, map, Option, Some, None, refl, sym, ap, ◌∙◌, subst}
 use Rattle.std.proofs.lemmas.Bool.{and_from, cases_Bool, eq-eqb, false≢true}
 use Rattle.std.proofs.lemmas.Option.{none-some, same_Some}
 use Rattle.std.specs.List.{list_all, range_with_len}
 use Rattle.std.specs.Prelude.{◌==◌, is_some, slice_get}
-use Rattle.session_order.proofs.Turns.{each_more}
+use Rattle.session_order.proofs.Turns.{EachIs, each_more, each_none}
 use Rattle.session_order.specs.Calls.{call_of, calls_by, is_none, made_by, next_by, next_of}
 use Rattle.session_order.specs.Ends.{EndsBy, Setup}
 use Rattle.session_order.specs.Follows.{Follows}
@@ -17,47 +17,20 @@ use Rattle.vt_events.specs.declared.entry.Entry.{Entry}
 use Rattle.vt_journal.specs.Room.{full_at, has_room, tail_at}
 use Rattle.vt_journal.specs.declared.full.Full.{Full}
 
--- an element that passes a test is among those that pass, after the ones before it
-record Passes {A : Type 0} (test : A → Bool) (xs : List A) (k : ℕ) (x : A) : Type 0 where
-  pub place : ℕ
-  pub there : slice_get (filter test xs) place ≡ Some x
-  pub before : filter test (take k xs) ≡ take place (filter test xs)
-
-passes_more : {A : Type 0} (test : A → Bool) (y : A) (xs : List A) (k : ℕ) (x : A)
-    → Passes test xs k x → Passes test (y ∷ xs) (suc k) x
-passes_more test y xs k x found =
-    ⊎_elim
-    (λ is. record {
-      place = suc found.place;
-      there = ap (λ b. slice_get (cond b (y ∷ filter test xs) (filter test xs)) (suc found.place)) is ∙ found.there;
-      before =
-          ap (λ b. cond b (y ∷ filter test (take k xs)) (filter test (take k xs))) is
-          ∙ ap (λ ys. y ∷ ys) found.before
-          ∙ sym (ap (λ b. take (suc found.place) (cond b (y ∷ filter test xs) (filter test xs))) is);
-    })
-    (λ isnt. record {
-      place = found.place;
-      there = ap (λ b. slice_get (cond b (y ∷ filter test xs) (filter test xs)) found.place) isnt ∙ found.there;
-      before =
-          ap (λ b. cond b (y ∷ filter test (take k xs)) (filter test (take k xs))) isnt
-          ∙ found.before
-          ∙ sym (ap (λ b. take found.place (cond b (y ∷ filter test xs) (filter test xs))) isnt);
-    })
-    (cases_Bool (test y))
-
-passes : {A : Type 0} (test : A → Bool) (xs : List A) (k : ℕ) (x : A) → slice_get xs k ≡ Some x
-    → test x ≡ true → Passes test xs k x
-passes test [] k x is yes_x = absurd (none-some x is)
-passes test (y ∷ xs) zero x is yes_x =
-    let same : y ≡ x = same_Some y x is in
-    let yes_y : test y ≡ true = ap test same ∙ yes_x in
-    record {
-      place = 0;
-      there = ap (λ b. slice_get (cond b (y ∷ filter test xs) (filter test xs)) 0) yes_y ∙ ap Some same;
-      before = refl;
-    }
-passes test (y ∷ xs) (suc k) x is yes_x =
-    passes_more test y xs k x (passes test xs k x is yes_x)
+-- a fact of each entry that passes a test, after those before it that pass
+of_passing : (P : List Entry → Entry → Type 0) (test : Entry → Bool) (entries : List Entry)
+    → EachIs P (filter test entries) → (k : ℕ) (entry : Entry) → slice_get entries k ≡ Some entry
+    → test entry ≡ true → P (filter test (take k entries)) entry
+of_passing P test [] each k entry is passes = absurd (none-some entry is)
+of_passing P test (first ∷ entries) each zero entry is passes =
+    let here : test first ≡ true = ap test (same_Some first entry is) ∙ passes in
+    each 0 entry (rw here is)
+of_passing P test (first ∷ entries) each (suc k) entry is passes = ⊎_elim
+    (λ here.
+    let mine : EachIs P (first ∷ filter test entries) = rw here at each in
+    rw here (of_passing (λ before. P (first ∷ before)) test entries (λ j. mine (suc j)) k entry is passes))
+    (λ not_here. rw not_here (of_passing P test entries (rw not_here at each) k entry is passes))
+    (cases_Bool (test first))
 
 pub runs_grow : RunsGrow
 runs_grow program made entry run is =
@@ -68,35 +41,26 @@ found_or : (program : Option Program) → (program ≡ None → ⊥) → (found 
 found_or None some = absurd (some refl)
 found_or (Some found) some = (found, refl)
 
--- a caller that made an entry has a program
-has_program : (o : Setup) (history : List Entry) (stop : Option Full) (caller p place : ℕ) (entry : Entry)
-    → IsClosed o history stop caller → slice_get (made_by p history) place ≡ Some entry
-    → (program : Program) × (program_of o.programs p ≡ Some program)
-has_program o history stop caller p place entry closed there =
-    found_or (program_of o.programs p)
-    (λ none. none-some entry (sym (ap (λ made. slice_get made place) (closed.known p none)) ∙ there))
-
 follows : (o : Setup) (history : List Entry) (stop : Option Full) (caller : ℕ)
     → IsClosed o history stop caller
     → ((p : ℕ) (program : Program) → program_of o.programs p ≡ Some program → HasEnded program (made_by p history) stop (p ≡ caller))
     → Follows o.start o.programs history
 follows o history stop caller closed ended k entry is =
     let p : ℕ = entry.caller in
-    let found : Passes (λ (x : Entry). x.caller == p) history k entry =
-    passes (λ (x : Entry). x.caller == p) history k entry is (eq-eqb p p refl) in
-    let (program, here) = has_program o history stop caller p found.place entry closed found.there in
-    let called : next program (map call_of (take found.place (made_by p history))) ≡ Some (plain_event entry.event) =
-    (ended p program here).run found.place entry found.there in
+    let test : Entry → Bool = λ x. x.caller == p in
+    let own : test entry ≡ true = eq-eqb p p refl in
+    let (program, here) = found_or (program_of o.programs p)
+    (λ none. of_passing (λ _ _. ⊥) test history
+    (subst (EachIs (λ _ _. ⊥)) (sym (closed.known p none)) (each_none (λ _ _. ⊥))) k entry is own) in
     record {
       next =
           ap (λ known. next_of known (calls_by p (take k history))) here
-          ∙ ap (λ made. next program (map call_of made)) found.before
-          ∙ called;
+          ∙ of_passing (λ made e. next program (map call_of made) ≡ Some (plain_event e.event)) test history (ended p program here).run k entry is own;
       ended = λ _. closed.free k entry is;
     }
 
 -- if each of these programs is over, all are
-over_from : (test : ℕ → Bool) (a n : ℕ) → ((p : ℕ) → p < a + n → test p ≡ true)
+pub over_from : (test : ℕ → Bool) (a n : ℕ) → ((p : ℕ) → p < a + n → test p ≡ true)
     → list_all test (range_with_len a n) ≡ true
 over_from test a zero each = refl
 over_from test a (suc n) each =

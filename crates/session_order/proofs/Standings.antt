@@ -22,14 +22,14 @@ use Rattle.vt_events.specs.declared.reply.Reply.{Reply}
 use Rattle.vt_events.proofs.Meant.{plain-twice}
 
 -- an entry of p is one more call of it, and none of another
-calls_mine : (h : List Entry) (entry : Entry) (q : ℕ) → entry.caller ≡ q
+pub calls_mine : (h : List Entry) (entry : Entry) (q : ℕ) → entry.caller ≡ q
     → calls_by q (h ++ entry ∷ []) ≡ calls_by q h ++ call_of entry ∷ []
 calls_mine h entry q mine =
     ap (map call_of) (filter-append (λ (x : Entry). x.caller == q) h (entry ∷ [])
     ∙ ap (λ b. filter (λ (x : Entry). x.caller == q) h ++ cond b (entry ∷ []) []) (eq-eqb entry.caller q mine))
     ∙ map-append call_of (filter (λ (x : Entry). x.caller == q) h) (entry ∷ [])
 
-calls_others : (h : List Entry) (entry : Entry) (q : ℕ) → (entry.caller ≡ q → ⊥)
+pub calls_others : (h : List Entry) (entry : Entry) (q : ℕ) → (entry.caller ≡ q → ⊥)
     → calls_by q (h ++ entry ∷ []) ≡ calls_by q h
 calls_others h entry q apart =
     ap (map call_of) (filter-append (λ (x : Entry). x.caller == q) h (entry ∷ [])

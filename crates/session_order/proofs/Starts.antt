@@ -1,6 +1,6 @@
 -- The facts about every session: it begins at a start of the machine, and only callers have programs.
-use Rattle.std.proofs.Common.{◌≡◌, ⊎_elim, ℕ, ◌+◌, ◌≤◌, ◌&&◌, nat_le, nat_lt, List, length, refl, sym, ◌∙◌, arith}
-use Rattle.std.proofs.lemmas.Bool.{and_parts, leb-true, ltb-true, or_cases}
+use Rattle.std.proofs.Common.{◌≡◌, ℕ, ◌≤◌, List, length, refl, sym, ◌∙◌, arith}
+use Rattle.std.proofs.lemmas.Bool.Decides.{nat_tests}
 use Rattle.key_tables.specs.Tables.{Tables}
 use Rattle.session_order.specs.Laws.{IsFromStart}
 use Rattle.session_order.specs.Sessions.{AreOfCallers, setup_of, start_of}
@@ -47,8 +47,4 @@ from_start s are = record {
 pub of_callers : CallersHavePrograms → (processes keyboards : ℕ) (list : List Program) → processes ≤ 64
     → keyboards ≤ 4 → ArePrograms processes keyboards list → AreOfCallers list
 of_callers have processes keyboards list few four are = λ p is.
-    ⊎_elim (λ low. omega (arith, leb-true p processes low, few))
-    (λ both.
-    omega (arith, ltb-true p (64 + keyboards) (and_parts (nat_lt 64 p) (nat_lt p (64 + keyboards)) both).1, four))
-    (or_cases (nat_le p processes) (nat_lt 64 p && nat_lt p (64 + keyboards))
-    (sym (have processes keyboards list few are p) ∙ is))
+    let there = sym (have processes keyboards list few are p) ∙ is in grind (arith, nat_tests)

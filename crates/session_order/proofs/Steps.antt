@@ -8,10 +8,9 @@ use Rattle.session_text.specs.Programs.{is_exit, is_gone, is_kill, is_srch}
 use Rattle.vt_events.specs.Waits.{is_wait}
 use Rattle.vt_base.specs.Keyboards.{is_keyboard}
 use Rattle.vt_base.specs.declared.errno.Errno.{Errno}
-use Rattle.vt_base.specs.declared.errno.Errno.TheVariants as errno
 use Rattle.vt_events.specs.declared.event.Event.{Event}
-use Rattle.vt_events.specs.declared.event.Event.TheVariants as event
-use Rattle.vt_events.specs.declared.reply.Reply.TheVariants as reply
+use Rattle.vt_events.specs.Plain.{plain_reply}
+use Rattle.vt_events.specs.declared.reply.Reply.{Reply}
 use Rattle.vt_procs.specs.Callers.{is_live}
 use Rattle.vt_procs.specs.declared.ticket.Ticket.{Ticket}
 use Rattle.vt_procs.specs.declared.ticket.Ticket.TheVariants.{Active, Input}
@@ -24,6 +23,9 @@ use Rattle.vt_world.specs.Rows.{EventRow, ended_reply, waits_unless}
 use Rattle.vt_world.specs.State.{WorldState}
 use Rattle.vt_world.specs.Step.{Outcome, outcome_of_row, row_result_after, row_result, step, with_idle_rule}
 use Rattle.vt_world.specs.Refusals.{Refusal, caller, common_refusals, ends_wait, first_refusal, holds_ticket, is_empty, may_make, target}
+use Rattle.vt_base.specs.declared.errno.Errno.TheVariants as errno
+use Rattle.vt_events.specs.declared.event.Event.TheVariants as event
+use Rattle.vt_events.specs.declared.reply.Reply.TheVariants as reply
 
 -- the first of the tests of every event that fails, and of those of this one
 abbrev pub common : WorldState → ℕ → Event → Option Errno
@@ -112,53 +114,32 @@ own_no_srch : (w : WorldState) (p : ℕ) (e : Event) → is_kill e ≡ false
 own_no_srch w p (event.Kill q s) isnt = absurd (true≢false isnt)
 own_no_srch w p e isnt = refl
 
-waits_replies : (there : Bool) (p : ℕ) (ticket : Ticket)
-    → is_gone (waits_unless there p ticket).reply ≡ false
-waits_replies true p ticket = refl
-waits_replies false p ticket = refl
+-- the facts about the answer of every row: it has no spare room, and isn't ESRCH
+record IsFair (r : Reply) : Type 0 where
+  plain : plain_reply r ≡ r
+  here : is_gone r ≡ false
 
-ended_replies : (waiting : Waiting) → is_gone (ended_reply waiting) ≡ false
-ended_replies Nothing = refl
-ended_replies (Open ticket) = refl
-ended_replies Done = refl
-ended_replies Broken = refl
+waits_fair : (there : Bool) (p : ℕ) (ticket : Ticket) → IsFair (waits_unless there p ticket).reply
+waits_fair true p ticket = record { plain = refl; here = refl }
+waits_fair false p ticket = record { plain = refl; here = refl }
 
-row_replies : (w : WorldState) (p : ℕ) (e : Event) → is_gone (row w p e).reply ≡ false
-row_replies w p (event.WaitInput fd) =
-    waits_replies (not (is_empty w (target w p fd))) p (Input (target w p fd))
-row_replies w p (event.WaitActive fd n) = waits_replies (n == w.display.front) p (Active n)
-row_replies w p event.WaitEnd = ended_replies (caller w p).waiting
-row_replies w p e = refl
+ended_fair : (waiting : Waiting) → IsFair (ended_reply waiting)
+ended_fair Nothing = record { plain = refl; here = refl }
+ended_fair (Open ticket) = record { plain = refl; here = refl }
+ended_fair Done = record { plain = refl; here = refl }
+ended_fair Broken = record { plain = refl; here = refl }
 
-gone_does : (w : WorldState) (p : ℕ) (e : Event) (o : Outcome) → StepDoes w p e o
-    → is_kill e ≡ false → is_gone o.reply ≡ true → is_live w.callers p ≡ false
-gone_does w p e o (RefusedByAll with is) kill gone =
-    tested_srch (is_live w.callers p) (may_make p e) (holds_ticket w p && not (ends_wait e)) with is gone
-gone_does w p e o (RefusedByOwn with none is) kill gone =
-    absurd (both_ways (is_srch with) (failing_no_srch (own_refusals (without_marks w) p e) with (own_no_srch (without_marks w) p e kill) is) gone)
-gone_does w p e o (Accepted none is) kill gone =
-    absurd (both_ways (is_gone (row (without_marks w) p e).reply) (row_replies (without_marks w) p e) gone)
-
--- a caller that gets ESRCH for a call other than kill is dead
-pub gone_dead : (w : WorldState) (p : ℕ) (e : Event) → is_kill e ≡ false
-    → is_gone (step w p e).reply ≡ true → is_live w.callers p ≡ false
-gone_dead w p e = gone_does w p e (step w p e) (step_does w p e)
+row_fair : (w : WorldState) (p : ℕ) (e : Event) → IsFair (row w p e).reply
+row_fair w p (event.WaitInput fd) =
+    waits_fair (not (is_empty w (target w p fd))) p (Input (target w p fd))
+row_fair w p (event.WaitActive fd n) = waits_fair (n == w.display.front) p (Active n)
+row_fair w p event.WaitEnd = ended_fair (caller w p).waiting
+row_fair w p e = record { plain = refl; here = refl }
 
 exit_reply : (w : WorldState) (p : ℕ) (e : Event) → is_exit e ≡ true
     → is_wait (row w p e).reply ≡ false
 exit_reply w p event.Exit is = refl
 exit_reply w p e is = absurd (false≢true is)
-
-exit_waits : (w : WorldState) (p : ℕ) (e : Event) (o : Outcome) → StepDoes w p e o
-    → is_exit e ≡ true → is_wait o.reply ≡ false
-exit_waits w p e o (RefusedByAll with is) exit = refl
-exit_waits w p e o (RefusedByOwn with none is) exit = refl
-exit_waits w p e o (Accepted none is) exit = exit_reply (without_marks w) p e exit
-
--- exit isn't answered wait
-pub exit_never_waits : (w : WorldState) (p : ℕ) (e : Event) → is_exit e ≡ true
-    → is_wait (step w p e).reply ≡ false
-exit_never_waits w p e = exit_waits w p e (step w p e) (step_does w p e)
 
 keyboard_reply : (w : WorldState) (p : ℕ) (e : Event) → may_make p e ≡ true
     → is_wait (row w p e).reply ≡ true → is_keyboard p ≡ false
@@ -166,14 +147,37 @@ keyboard_reply w p (event.Scan b) may wait = absurd (false≢true wait)
 keyboard_reply w p event.Exit may wait = absurd (false≢true wait)
 keyboard_reply w p e may wait = not-true (is_keyboard p) may
 
-keyboard_waits : (w : WorldState) (p : ℕ) (e : Event) (o : Outcome) → StepDoes w p e o
-    → is_wait o.reply ≡ true → is_keyboard p ≡ false
-keyboard_waits w p e o (RefusedByAll with is) wait = absurd (false≢true wait)
-keyboard_waits w p e o (RefusedByOwn with none is) wait = absurd (false≢true wait)
-keyboard_waits w p e o (Accepted none is) wait =
-    keyboard_reply (without_marks w) p e (common_none w p e none).1 wait
+-- the facts about the answer of a step: it has no spare room; a caller that gets ESRCH for a call other than kill
+-- is dead; exit isn't answered wait; and no keyboard waits
+pub record Answers (w : WorldState) (p : ℕ) (e : Event) (r : Reply) : Type 0 where
+  pub plain : plain_reply r ≡ r
+  pub gone : is_kill e ≡ false → is_gone r ≡ true → is_live w.callers p ≡ false
+  pub exit : is_exit e ≡ true → is_wait r ≡ false
+  pub keyboard : is_wait r ≡ true → is_keyboard p ≡ false
 
--- no keyboard waits
-pub keyboard_never_waits : (w : WorldState) (p : ℕ) (e : Event)
-    → is_wait (step w p e).reply ≡ true → is_keyboard p ≡ false
-keyboard_never_waits w p e = keyboard_waits w p e (step w p e) (step_does w p e)
+answers_by : (w : WorldState) (p : ℕ) (e : Event) (o : Outcome) → StepDoes w p e o → Answers w p e o.reply
+answers_by w p e _ (RefusedByAll with is) = record {
+  plain = refl;
+  gone = λ kill.
+      tested_srch (is_live w.callers p) (may_make p e) (holds_ticket w p && not (ends_wait e)) with is;
+  exit = λ exit. refl;
+  keyboard = λ wait. absurd (false≢true wait);
+}
+answers_by w p e _ (RefusedByOwn with none is) = record {
+  plain = refl;
+  gone = λ kill gone.
+      absurd (both_ways (is_srch with) (failing_no_srch (own_refusals (without_marks w) p e) with (own_no_srch (without_marks w) p e kill) is) gone);
+  exit = λ exit. refl;
+  keyboard = λ wait. absurd (false≢true wait);
+}
+answers_by w p e _ (Accepted none is) =
+    let fair : IsFair (row (without_marks w) p e).reply = row_fair (without_marks w) p e in
+    record {
+      plain = fair.plain;
+      gone = λ kill gone. absurd (both_ways (is_gone (row (without_marks w) p e).reply) fair.here gone);
+      exit = exit_reply (without_marks w) p e;
+      keyboard = keyboard_reply (without_marks w) p e (common_none w p e none).1;
+    }
+
+pub answers : (w : WorldState) (p : ℕ) (e : Event) → Answers w p e (step w p e).reply
+answers w p e = answers_by w p e (step w p e) (step_does w p e)

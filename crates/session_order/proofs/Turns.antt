@@ -1,72 +1,31 @@
 -- The facts that a play keeps: its history is legal, follows the programs, is within the limits, and stops at a
--- call that finds no room.
-use Rattle.std.proofs.Common.{◌≡◌, ◌⊎◌, ℕ, ◌+◌, ◌<◌, zero, suc, Bool, true, false, ⊎_elim, inl, inr, arith, List, [], ◌∷◌, ◌++◌, length, get_or, take, Option, Some, None, refl, sym, ap, ◌∙◌, subst, length-append}
-use Rattle.std.proofs.Math.ListN.{get_or-append}
-use Rattle.std.proofs.Math.Seq.{get_or-append_seam, take-append_seam}
-use Rattle.std.proofs.lemmas.Bool.{and_parts, cases_Bool, cases_lt, leb-true, ltb-true}
-use Rattle.std.proofs.lemmas.List.{take-append-le}
+-- call that finds no room. Rounds of a play that is finished change nothing.
+use Rattle.std.proofs.Common.{◌≡◌, ◌⊎◌, ℕ, ◌+◌, ◌<◌, zero, suc, Bool, true, false, ⊎_elim, arith, List, [], ◌∷◌, ◌++◌, length, get_or, take, Option, Some, None, refl, sym, ap, ◌∙◌, subst, length-append, cond, ◌≤◌}
+use Rattle.std.proofs.lemmas.Bool.{cases_Bool, both_ways}
+use Rattle.std.proofs.lemmas.Bool.Decides.{nat_tests}
 use Rattle.std.proofs.lemmas.List.Sums.{sum_by-append}
-use Rattle.std.proofs.lemmas.Option.{get_or_from_slice_get, none-some, same_Some, slice_get-get_or, slice_get_within}
+use Rattle.std.proofs.lemmas.Option.{none-some, same_Some}
 use Rattle.std.specs.List.{range_with_len}
-use Rattle.std.specs.Prelude.{◌==◌, not, slice_get, if◌then◌else◌, nat_le, nat_lt}
+use Rattle.std.specs.Prelude.{slice_get, if◌then◌else◌}
 use Rattle.session_order.proofs.Programs.{next_fine}
-use Rattle.session_order.specs.Calls.{calls_by, next_by, next_of}
+use Rattle.session_order.specs.Calls.{calls_by, next_by, next_of, all_over, is_none}
 use Rattle.session_order.specs.Ends.{Ends, Setup, Stops}
 use Rattle.vt_journal.specs.Room.{IsWithin, full_at, has_room}
 use Rattle.session_order.specs.Follows.{Follows, IsNextCall, is_waiting}
-use Rattle.session_order.specs.Laws.{SerialIsRight}
+use Rattle.session_order.specs.Laws.{SerialIsRight, FinishedStays, SerialIsOne}
 use Rattle.session_order.specs.Serial.{Played, call_now, calls, entry_at, is_finished, nothing_played, round, rounds, tail_of, turn, turns}
 use Rattle.session_text.specs.Programs.{program_of}
 use Rattle.session_text.specs.declared.program.Program.{Program}
 use Rattle.vt_base.specs.Limits.{callers as every_caller}
 use Rattle.vt_events.specs.Charge.{charge_of}
-use Rattle.vt_events.specs.Plain.{plain_event, plain_reply}
+use Rattle.vt_events.specs.Plain.{plain_event}
 use Rattle.vt_events.specs.declared.entry.Entry.{Entry}
 use Rattle.vt_events.specs.declared.event.Event.{Event}
-use Rattle.vt_events.specs.declared.event.Event.TheVariants as event
-use Rattle.vt_journal.specs.Log.{charge_of_all}
 use Rattle.vt_journal.specs.declared.full.Full.{Full}
-use Rattle.vt_procs.specs.declared.ticket.Ticket.{Ticket}
-use Rattle.vt_procs.specs.declared.ticket.Ticket.TheVariants.{Active, Input}
-use Rattle.vt_procs.specs.declared.waiting.Waiting.{Waiting}
-use Rattle.vt_procs.specs.declared.waiting.Waiting.TheVariants.{Nothing, Open, Done, Broken}
-use Rattle.session_order.proofs.Steps.{Accepted, RefusedByAll, RefusedByOwn, StepDoes, step_does}
-use Rattle.vt_world.specs.Heard.{without_marks}
 use Rattle.vt_world.specs.History.{IsLegal, IsNext, replay}
-use Rattle.vt_world.specs.Events.{row}
-use Rattle.vt_world.specs.Rows.{ended_reply, waits_unless}
-use Rattle.vt_world.specs.State.{WorldState}
-use Rattle.vt_world.specs.Step.{Outcome, step}
-use Rattle.vt_world.specs.Refusals.{caller, is_empty, target}
-
--- the machine's answers have no spare room
-waits_plain : (there : Bool) (p : ℕ) (ticket : Ticket)
-    → plain_reply (waits_unless there p ticket).reply ≡ (waits_unless there p ticket).reply
-waits_plain true p ticket = refl
-waits_plain false p ticket = refl
-
-ended_plain : (waiting : Waiting) → plain_reply (ended_reply waiting) ≡ ended_reply waiting
-ended_plain Nothing = refl
-ended_plain (Open ticket) = refl
-ended_plain Done = refl
-ended_plain Broken = refl
-
-row_plain : (w : WorldState) (p : ℕ) (e : Event) → plain_reply (row w p e).reply ≡ (row w p e).reply
-row_plain w p (event.WaitInput fd) =
-    waits_plain (not (is_empty w (target w p fd))) p (Input (target w p fd))
-row_plain w p (event.WaitActive fd n) = waits_plain (n == w.display.front) p (Active n)
-row_plain w p event.WaitEnd = ended_plain (caller w p).waiting
-row_plain w p e = refl
-
-step_plain : (w : WorldState) (p : ℕ) (e : Event) (o : Outcome) → StepDoes w p e o
-    → plain_reply o.reply ≡ o.reply
-step_plain w p e _ (RefusedByAll with is) = refl
-step_plain w p e _ (RefusedByOwn with none is) = refl
-step_plain w p e _ (Accepted none is) = row_plain (without_marks w) p e
-
-pub reply_plain : (w : WorldState) (p : ℕ) (e : Event)
-    → plain_reply (step w p e).reply ≡ (step w p e).reply
-reply_plain w p e = step_plain w p e (step w p e) (step_does w p e)
+use Rattle.session_order.proofs.Steps.{answers}
+use Rattle.std.proofs.lemmas.List.FromFn.{get_or-range_with_len, length-range_with_len}
+use Rattle.std.proofs.lemmas.List.Folds.{list_all_at}
 
 -- a program's next call has no spare room
 next_plain : (program : Option Program) (made : List _) (e : Event) → next_of program made ≡ Some e
@@ -79,23 +38,6 @@ pub event_plain : (programs : List Program) (p : ℕ) (history : List Entry) (e 
 event_plain programs p history e is =
     next_plain (program_of programs p) (calls_by p history) e is
 
--- an element of a list with one more: an element of the list, or the last one
-at_either : {A : Type 0} (xs : List A) (x : A) (k : ℕ) (y : A) → slice_get (xs ++ x ∷ []) k ≡ Some y
-    → (slice_get xs k ≡ Some y) ⊎ ((k ≡ length xs) × (x ≡ y))
-at_either xs x k y is =
-    let read : get_or (xs ++ x ∷ []) k y ≡ y = get_or_from_slice_get (xs ++ x ∷ []) k y y is in
-    ⊎_elim
-    (λ within. inl
-    (slice_get-get_or xs k y within
-    ∙ ap Some (sym (get_or-append xs (x ∷ []) y k within) ∙ read)))
-    (λ past.
-    let last : k ≡ length xs =
-    omega (arith, past, slice_get_within (xs ++ x ∷ []) k y is, length-append xs (x ∷ [])) in
-    let here : get_or (xs ++ x ∷ []) k y ≡ x =
-    ap (λ n. get_or (xs ++ x ∷ []) n y) last ∙ get_or-append_seam xs x [] y in
-    inr (last, sym here ∙ read))
-    (cases_lt k (length xs))
-
 -- each element is directly after those before it
 abbrev pub EachIs : (List Entry → Entry → Type 0) → List Entry → Type 0
 EachIs P entries =
@@ -103,16 +45,11 @@ EachIs P entries =
 
 pub each_more : (P : List Entry → Entry → Type 0) (entries : List Entry) (entry : Entry)
     → EachIs P entries → P entries entry → EachIs P (entries ++ entry ∷ [])
-each_more P entries entry old next k found is = ⊎_elim
-    (λ here.
-    let within : k < length entries = slice_get_within entries k found here in
-    subst (λ before. P before found)
-    (sym (take-append-le k entries (entry ∷ []) (omega (arith, within)))) (old k found here))
-    (λ new.
-    let before : entries ≡ take k (entries ++ entry ∷ []) =
-    sym (ap (λ n. take n (entries ++ entry ∷ [])) new.0 ∙ take-append_seam entries (entry ∷ [])) in
-    subst (λ e. P (take k (entries ++ entry ∷ [])) e) new.1 (subst (λ list. P list entry) before next))
-    (at_either entries entry k found is)
+each_more P [] entry old next zero found is = subst (P []) (same_Some entry found is) next
+each_more P [] entry old next (suc k) found is = absurd (none-some found is)
+each_more P (first ∷ entries) entry old next zero found is = old 0 found is
+each_more P (first ∷ entries) entry old next (suc k) found is =
+    each_more (λ before. P (first ∷ before)) entries entry (λ j. old (suc j)) next k found is
 
 pub each_none : (P : List Entry → Entry → Type 0) → EachIs P []
 each_none P k entry is = absurd (none-some entry is)
@@ -170,12 +107,9 @@ goes_nothing o = record {
 within_more : (o : Setup) (h : List Entry) (entry : Entry)
     → has_room o.limits h (charge_of entry.event) ≡ true → IsWithin o.limits (h ++ entry ∷ [])
 within_more o h entry room =
-    let parts : (nat_lt (length h) o.limits.events ≡ true) × (nat_le (charge_of_all h + charge_of entry.event) o.limits.bytes ≡ true) =
-    and_parts (nat_lt (length h) o.limits.events) (nat_le (charge_of_all h + charge_of entry.event) o.limits.bytes) room in
-    record {
-      events = omega (arith, ltb-true (length h) o.limits.events parts.0, length-append h (entry ∷ []));
-      bytes = omega (arith, leb-true (charge_of_all h + charge_of entry.event) o.limits.bytes parts.1, sum_by-append (λ (x : Entry). charge_of x.event) h (entry ∷ []));
-    }
+    let longer = length-append h (entry ∷ []) in
+    let sum = sum_by-append (λ (x : Entry). charge_of x.event) h (entry ∷ []) in
+    grind (arith, nat_tests)
 
 goes_turn : (o : Setup) (p : ℕ) (h : List Entry) (t : Played) → TurnDoes o p h t
     → Goes o (record { history = h; stop = None }) → Goes o t
@@ -183,7 +117,7 @@ goes_turn o p h _ (Skips none) goes = goes
 goes_turn o p h _ (Enters e shut next room) goes =
     let entry : Entry = entry_at o.start h p e in
     let is_next : IsNext o.start h entry = record {
-      answer = reply_plain (replay o.start h) p e;
+      answer = (answers (replay o.start h) p e).plain;
       number = refl;
     } in
     let is_call : IsNextCall o.start o.programs h entry = record {
@@ -245,3 +179,83 @@ serial_right o first t serial =
       follows = goes.follows;
       ends = ends o t.history t.stop goes serial.finished;
     }
+
+pub is_none_none : (o : Option Event) → is_none o ≡ true → o ≡ None
+is_none_none None is = refl
+is_none_none (Some e) is = absurd (both_ways false refl is)
+
+-- if every program is over, no caller has a next call
+pub none_next : (programs : List Program) (history : List Entry) (p : ℕ) → p < every_caller
+    → all_over programs history ≡ true → next_by programs p history ≡ None
+none_next programs history p within over =
+    let n : ℕ = every_caller in
+    let test : ℕ → Bool = λ q. is_none (next_by programs q history) in
+    ⊎_elim
+    (λ is. is_none_none (next_by programs p history) is)
+    (λ isnt.
+    let here : get_or (range_with_len 0 n) p 0 ≡ p =
+    get_or-range_with_len 0 n p 0 within ∙ omega arith in
+    let inside : p < length (range_with_len 0 n) =
+    omega (arith, within, length-range_with_len 0 n) in
+    absurd (both_ways (all_over programs history)
+    (list_all_at test (range_with_len 0 n) p 0 inside (ap test here ∙ isnt)) over))
+    (cases_Bool (test p))
+
+-- a caller without a next call is skipped
+pub skipped : (o : Setup) (p : ℕ) (history : List Entry) → next_by o.programs p history ≡ None
+    → calls o p (call_now o history p) history ≡ record { history = history; stop = None }
+skipped o p history none =
+    let waits : Bool = is_waiting (replay o.start history) p in
+    let now : call_now o history p ≡ None =
+    ap (λ e. cond waits None e) none
+    ∙ elim waits as (λ b. ◌≡◌ {A = Option Event} (cond b None None) None) [ true ↦ refl | false ↦ refl ] in
+    ap (λ e. calls o p e history) now
+
+pub turn_stays : (o : Setup) (p : ℕ) (history : List Entry) (stop : Option Full) → p < every_caller
+    → is_finished o (record { history = history; stop = stop }) ≡ true
+    → turn o p (record { history = history; stop = stop })
+    ≡ record { history = history; stop = stop }
+turn_stays o p history (Some full) within over = refl
+turn_stays o p history None within over =
+    skipped o p history (none_next o.programs history p within over)
+
+pub turns_stay : (o : Setup) (p n : ℕ) (t : Played) → p + n ≤ every_caller → is_finished o t ≡ true
+    → turns o (range_with_len p n) t ≡ t
+turns_stay o p zero t within over = refl
+turns_stay o p (suc n) t within over =
+    ap (turns o (range_with_len (p + 1) n)) (turn_stays o p t.history t.stop (omega (arith, within)) over)
+    ∙ turns_stay o (p + 1) n t (omega (arith, within)) over
+
+pub finished_stays : FinishedStays
+finished_stays o zero t over = refl
+finished_stays o (suc n) t over =
+    ap (rounds o n) (turns_stay o 0 every_caller t (omega arith) over)
+    ∙ finished_stays o n t over
+
+-- rounds and more rounds
+pub rounds_more : (o : Setup) (m n : ℕ) (t : Played)
+    → rounds o (m + n) t ≡ rounds o n (rounds o m t)
+rounds_more o zero n t = ap (λ k. rounds o k t) (let e : 0 + n ≡ n = omega arith in e)
+rounds_more o (suc m) n t =
+    ap (λ k. rounds o k t) (let e : suc m + n ≡ suc (m + n) = omega arith in e)
+    ∙ rounds_more o m n (round o t)
+
+-- the same rounds in two counts
+same : (o : Setup) (m k : ℕ) (t : Played) → is_finished o (rounds o m t) ≡ true
+    → rounds o (m + k) t ≡ rounds o m t
+same o m k t over = rounds_more o m k t ∙ finished_stays o k (rounds o m t) over
+
+pub serial_one : SerialIsOne
+serial_one o first a b sa sb =
+    let t : Played = turns o first nothing_played in
+    let over_a : is_finished o (rounds o sa.count t) ≡ true =
+    subst (λ x. is_finished o x ≡ true) sa.played sa.finished in
+    let over_b : is_finished o (rounds o sb.count t) ≡ true =
+    subst (λ x. is_finished o x ≡ true) sb.played sb.finished in
+    let meets : rounds o (sa.count + sb.count) t ≡ rounds o (sb.count + sa.count) t =
+    ap (λ k. rounds o k t) (let e : sa.count + sb.count ≡ sb.count + sa.count = omega arith in e) in
+    sa.played
+    ∙ sym (same o sa.count sb.count t over_a)
+    ∙ meets
+    ∙ same o sb.count sa.count t over_b
+    ∙ sym sb.played

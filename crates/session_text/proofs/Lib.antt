@@ -8,6 +8,7 @@ pub mod Hooking
 pub mod ItemWords
 pub mod KeyTyping
 pub mod MadeSession
+pub mod NextCalls
 pub mod OneHook
 pub mod OneItem
 pub mod OneResult

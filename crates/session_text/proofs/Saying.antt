@@ -1,21 +1,18 @@
 -- The meaning of a list, item by item.
-use Rattle.std.proofs.Common.{◌≡◌, ℕ, ◌+◌, ◌<◌, ◌≤◌, length, get_or, map, drop, subst, List, [], ◌∷◌, ◌++◌, Result, Ok, Err, inl, inr, refl, sym, ap}
+use Rattle.std.proofs.Common.{◌≡◌, ℕ, ◌+◌, ◌<◌, ◌≤◌, length, get_or, map, drop, subst, List, [], ◌∷◌, ◌++◌, Result, Ok, Err, refl, sym, ap}
 use Rattle.std.proofs.lemmas.List.{append_assoc, append-nil, at_drop_more, drop_all}
 use Rattle.table_fields.specs.Collecting.{found_before}
 use Rattle.table_fields.specs.declared.fault.TableFault.{TableFault}
 use Rattle.table_fields.specs.declared.fault.TableError.{TableError}
-use Rattle.table_fields.specs.declared.fault.TableError.TheVariants as errors
 use Rattle.session_text.specs.Says.{Reads, each_says}
+use Rattle.table_fields.specs.declared.fault.TableError.TheVariants as errors
 
-pub each_more : {A B : Type 0} (says : ℕ → A → Result B TableFault → Type 0) (n : ℕ) (x : A) (xs : List A)
+-- the values of a list whose first one is known
+each_more : {A B : Type 0} (says : ℕ → A → Result B TableFault → Type 0) (n : ℕ) (x : A) (xs : List A)
     (y : B) (said : Result (List B) TableFault) → says n x (Ok y) → each_says says (n + 1) xs said
     → each_says says n (x ∷ xs) (found_before (y ∷ []) said)
-each_more says n x xs y (Ok ys) first others = (first, others)
-each_more says n x xs y (Err e) first others = inr (y, first, others)
-
-pub each_fault : {A B : Type 0} (says : ℕ → A → Result B TableFault → Type 0) (n : ℕ) (x : A) (xs : List A)
-    (e : TableFault) → says n x (Err e) → each_says {B = B} says n (x ∷ xs) (Err e)
-each_fault says n x xs e first = inl first
+each_more says n x xs y (Ok ys) first others = (Ok y, first, (Ok ys, others, refl))
+each_more says n x xs y (Err e) first others = (Ok y, first, (Err e, others, refl))
 
 pub behind_more : {B : Type 0} (found : List B) (y : B) (said : Result (List B) TableFault)
     → found_before found (found_before (y ∷ []) said) ≡ found_before (found ++ y ∷ []) said
@@ -54,7 +51,7 @@ pub so_far_fault : {X A B : Type 0} (says : ℕ → A → Result B TableFault �
 so_far_fault says g xs d i found f within so_far first =
     so_far (Err f)
     (subst (λ ys. each_says says (i + 1) ys (Err f)) (sym (at_drop_more (map g) xs i d within))
-    (each_fault says (i + 1) (g (get_or xs i d)) (map g (drop (i + 1) xs)) f first))
+    (Err f, first, refl))
 
 pub so_far_end : {X A B : Type 0} (says : ℕ → A → Result B TableFault → Type 0) (g : X → A) (xs : List X)
     (i : ℕ) (found : List B) → length xs ≤ i → SoFar says g xs i found

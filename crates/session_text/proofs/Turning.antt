@@ -1,6 +1,6 @@
 -- Turns, one after another.
-use Rattle.std.proofs.Common.{◌≡◌, ℕ, ℤ, ◌+◌, ◌≤◌, ◌<◌, true, ◌&&◌, nat_le, nat_lt, ⊎_elim, List, [], ◌∷◌, ◌++◌, Result, Ok, Err, drop, get_or, length, min, refl, sym, ap, ◌∙◌, arith}
-use Rattle.std.proofs.lemmas.Bool.{and_parts, cases_lt, le-leb, leb-true, ltb-true, or_cases, or_left}
+use Rattle.std.proofs.Common.{◌≡◌, ℕ, ℤ, ◌+◌, ◌≤◌, ◌<◌, true, List, [], ◌∷◌, ◌++◌, Result, Ok, Err, drop, get_or, length, min, refl, sym, ap, ◌∙◌, arith}
+use Rattle.std.proofs.lemmas.Bool.Decides.{nat_tests}
 use Rattle.std.proofs.lemmas.List.{append_assoc, append-nil, at_drop_more, drop_all}
 use Rattle.table_fields.specs.Checked.{collect, ◌>>=◌}
 use Rattle.table_fields.specs.Collecting.{found_before}
@@ -11,28 +11,12 @@ use Rattle.session_text.specs.Turns.{is_there}
 -- with few processes, and four keyboards at most, no turn is past 67
 pub turn_low : (processes keyboards n : ℕ) → keyboards ≤ 4 → is_there processes keyboards n ≡ true
     → processes ≤ 64 → n ≤ 67
-turn_low processes keyboards n some there few = ⊎_elim
-    (λ low. omega (arith, leb-true n processes low, few))
-    (λ both. omega (arith, ltb-true n (64 + keyboards) (and_parts (nat_lt 64 n) (nat_lt n (64 + keyboards)) both).1, some))
-    (or_cases (nat_le n processes) (nat_lt 64 n && nat_lt n (64 + keyboards)) there)
+turn_low processes keyboards n some there few = grind (arith, nat_tests)
 
 -- the byte of a turn that is kept is the number of a caller that is there
 pub turn_there : (processes keyboards n : ℕ) → keyboards ≤ 4 → is_there processes keyboards n ≡ true
     → is_there processes keyboards (min n 67) ≡ true
-turn_there processes keyboards n some there = ⊎_elim
-    (λ high.
-    let last : min n 67 ≡ 67 = omega (arith, high) in
-    let within : 67 ≤ processes = ⊎_elim
-    (λ low. omega (arith, leb-true n processes low, high))
-    (λ both.
-    absurd (let no : ⊥ = omega (arith, ltb-true n (64 + keyboards) (and_parts (nat_lt 64 n) (nat_lt n (64 + keyboards)) both).1, some, high) in no))
-    (or_cases (nat_le n processes) (nat_lt 64 n && nat_lt n (64 + keyboards)) there) in
-    ap (is_there processes keyboards) last
-    ∙ or_left (nat_le 67 processes) (nat_lt 64 67 && nat_lt 67 (64 + keyboards)) (le-leb 67 processes within))
-    (λ low.
-    let same : min n 67 ≡ n = omega (arith, low) in
-    ap (is_there processes keyboards) same ∙ there)
-    (cases_lt 67 n)
+turn_there processes keyboards n some there = grind (arith, nat_tests)
 
 -- the turns that were found, one more, and those after it
 behind_one : (found : List ℕ) (n : ℕ) (more : Result (List ℕ) TableFault)

@@ -1,8 +1,8 @@
 -- The program of each caller among a session's programs.
-use Rattle.std.proofs.Common.{◌≡◌, ℕ, ◌+◌, ◌-◌, ◌<◌, ◌≤◌, zero, suc, Bool, true, false, ◌&&◌, nat_le, nat_lt, cond, ⊎_elim, List, [], ◌∷◌, ◌++◌, filter, length, Some, None, refl, sym, ap, ◌∙◌, arith}
-use Rattle.std.proofs.lemmas.Bool.{and_parts, both_ways, cases_Bool, cases_eq, false_from_ne_true, le-leb, leb-true, lt-ltb, ltb-true, ne_eqb, or_cases, or_left, or_right}
+use Rattle.std.proofs.Common.{◌≡◌, ℕ, ◌+◌, ◌-◌, ◌<◌, ◌≤◌, zero, suc, true, false, ◌&&◌, nat_le, nat_lt, cond, ⊎_elim, List, [], ◌∷◌, ◌++◌, filter, length, Some, None, refl, sym, ap, ◌∙◌, arith}
+use Rattle.std.proofs.lemmas.Bool.{cases_Bool, cases_eq, le-leb, ltb-true, ne_eqb, or_left}
+use Rattle.std.proofs.lemmas.Bool.Decides.{nat_tests}
 use Rattle.std.proofs.lemmas.List.Elements.{All-head, All-tail, filter-append}
-use Rattle.std.proofs.lemmas.Option.{slice_get_cases}
 use Rattle.std.specs.List.{All}
 use Rattle.std.specs.Prelude.{is_some, slice_get}
 use Rattle.session_text.specs.Programs.{is_keys, program_by, program_of, script_in}
@@ -76,52 +76,19 @@ script_at processes keyboards list a (suc k) apart =
     ∙ ap (slice_get a.scripts) same
 
 some_within : (list : List Program) (k : ℕ) → is_some (slice_get list k) ≡ nat_lt k (length list)
-some_within list k = ⊎_elim
-    (λ some. ap is_some some.2 ∙ sym (lt-ltb k (length list) some.1))
-    (λ past. ap is_some past.1
-    ∙ sym (false_from_ne_true (nat_lt k (length list))
-    (λ low. absurd (let no : ⊥ = omega (arith, ltb-true k (length list) low, past.0) in no))))
-    (slice_get_cases list k).1
-
--- two tests that imply each other are equal
-same_test : (a b : Bool) → (a ≡ true → b ≡ true) → (b ≡ true → a ≡ true) → a ≡ b
-same_test true true there back = refl
-same_test true false there back = sym (there refl)
-same_test false true there back = back refl
-same_test false false there back = refl
+some_within [] k = grind (arith, nat_tests)
+some_within (p ∷ list) zero = grind (arith, nat_tests)
+some_within (p ∷ list) (suc k) = some_within list k ∙ grind (arith, nat_tests)
 
 -- a caller above 64 is there if it is one of the keyboards
 there_above : (processes keyboards p : ℕ) → processes ≤ 64 → 64 < p
     → nat_lt (p - 64) keyboards ≡ is_there processes keyboards p
-there_above processes keyboards p few high =
-    same_test (nat_lt (p - 64) keyboards) (is_there processes keyboards p)
-    (λ low.
-    let below : p < 64 + keyboards = omega (arith, ltb-true (p - 64) keyboards low, high) in
-    or_right (nat_le p processes) (nat_lt 64 p && nat_lt p (64 + keyboards))
-    (λ i. lt-ltb 64 p high i && lt-ltb p (64 + keyboards) below i))
-    (λ there. ⊎_elim
-    (λ low. absurd (let no : ⊥ = omega (arith, leb-true p processes low, few, high) in no))
-    (λ both.
-    let below : p < 64 + keyboards =
-    ltb-true p (64 + keyboards) (and_parts (nat_lt 64 p) (nat_lt p (64 + keyboards)) both).1 in
-    let less : p - 64 < keyboards = omega (arith, below, high) in
-    lt-ltb (p - 64) keyboards less)
-    (or_cases (nat_le p processes) (nat_lt 64 p && nat_lt p (64 + keyboards)) there))
+there_above processes keyboards p few high = grind (arith, nat_tests)
 
 -- a caller from 1 to 64 is there if it is one of the processes
 there_below : (processes keyboards p : ℕ) → (p ≡ 0 → ⊥) → nat_lt 64 p ≡ false
     → nat_lt (p - 1) processes ≡ is_there processes keyboards p
-there_below processes keyboards p apart low =
-    same_test (nat_lt (p - 1) processes) (is_there processes keyboards p)
-    (λ less.
-    let within : p ≤ processes = omega (arith, ltb-true (p - 1) processes less) in
-    or_left (nat_le p processes) (nat_lt 64 p && nat_lt p (64 + keyboards)) (le-leb p processes within))
-    (λ there. ⊎_elim
-    (λ within.
-    let less : p - 1 < processes = omega (arith, leb-true p processes within, apart) in
-    lt-ltb (p - 1) processes less)
-    (λ both. absurd (both_ways (nat_lt 64 p) low (and_parts (nat_lt 64 p) (nat_lt p (64 + keyboards)) both).0))
-    (or_cases (nat_le p processes) (nat_lt 64 p && nat_lt p (64 + keyboards)) there))
+there_below processes keyboards p apart low = grind (arith, nat_tests)
 
 -- the program of another caller than the first keyboard
 program_past : (list : List Program) (p : ℕ) → (p ≡ 0 → ⊥)

@@ -19,11 +19,11 @@ abbrev pub ◌>>=◌ : {A B : Type 0} → (Result A TableFault → Type 0) → (
 
 -- each item of a list has its value, counted from n; otherwise the first fault is that of the list
 abbrev pub each_says : {A B : Type 0} → (ℕ → A → Result B TableFault → Type 0) → ℕ → List A → Result (List B) TableFault → Type 0
-each_says says n [] said = said ≡ Ok []
-each_says says n (x ∷ xs) (Ok []) = ⊥
-each_says says n (x ∷ xs) (Ok (y ∷ ys)) = says n x (Ok y) × each_says says (n + 1) xs (Ok ys)
-each_says {B = B} says n (x ∷ xs) (Err e) =
-    says n x (Err e) ⊎ ((y : B) × says n x (Ok y) × each_says says (n + 1) xs (Err e))
+each_says says n [] = is (Ok [])
+each_says says n (x ∷ xs) = do
+  y ← says n x
+  ys ← each_says says (n + 1) xs
+  is (Ok (y ∷ ys))
 
 -- unless memory ran out, the result of a call is the meaning of the text, by this relation of values
 abbrev pub ReadsBy : {X Y : Type 0} → (X → Y → Type 0) → Result X TableError → (Result Y TableFault → Type 0) → Type 0

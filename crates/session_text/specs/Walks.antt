@@ -40,11 +40,15 @@ rest_of_calls p w =
 pub record Stands (p : Program) (w : Place) (made : List Call) : Type 0 where
   pub same : (more : List Call) → next p (made ++ more) ≡ rest_of_calls p w more
 
--- the first call that is left is made, and the walk moves past it
-pub record Moves (p : Program) (w : Place) (r : Reply) (moved : Place) : Type 0 where
+-- the first of the calls that are left is made, with this answer, and the walk moves past it
+pub record Moves (left : List Call → Option Event) (p : Program) (r : Reply) (moved : Place) : Type 0 where
   pub same :
-      (e : Event) (more : List Call) → rest_of_calls p w [] ≡ Some e
-      → rest_of_calls p w (call e r ∷ more) ≡ rest_of_calls p moved more
+      (e : Event) (more : List Call) → left [] ≡ Some e
+      → left (call e r ∷ more) ≡ rest_of_calls p moved more
+
+-- the walk moves past its next call, which is no waitend
+abbrev pub Advances : Program → Place → Reply → Place → Type 0
+Advances p w r moved = Moves (ahead p w) p r moved
 
 -- a script whose acts are those of the table
 abbrev pub HasActs : Program → List Act → Type 0

@@ -3,7 +3,7 @@ ghost use Rattle.sig_hooks.specs.declared.act.Act.{Act};
 ghost use Rattle.vt_events.specs.declared.event.Event.{Event};
 ghost use Rattle.session_text.specs.Programs.{Call, call, calls_from, is_gone, next, scans, script, signals_in};
 ghost use Rattle.vt_events.specs.Waits.{is_wait};
-ghost use Rattle.session_text.specs.Walks.{HasActs, Moves, Stands, ahead};
+ghost use Rattle.session_text.specs.Walks.{Advances, HasActs, Stands, ahead};
 ghost use Rattle.session_text.specs.declared.program.Program.{Program};
 ghost use Rattle.session_text.specs.declared.program.Program.TheVariants as programs;
 
@@ -162,9 +162,7 @@ impl Walk {
 
     // Records that a scan byte was called, or exit.
     fn took_scan(&mut self, bytes: &Bytes, r: &Reply)
-        requires over { self.old.over ≡ false }
-        requires waiting { self.old.waiting ≡ false }
-        ensures { Moves (programs.Keys bytes.now) self.old r.now self.new }
+        ensures { Advances (programs.Keys bytes.now) self.old r.now self.new }
     {
         if bytes.as_slice().len() <= self.item {
             self.answered(true, r);
@@ -176,9 +174,7 @@ impl Walk {
 
     // Records that a call of a script was made.
     fn took_call(&mut self, items: &Items, hooks: &HookTable, r: &Reply)
-        requires over { self.old.over ≡ false }
-        requires waiting { self.old.waiting ≡ false }
-        ensures { Moves (programs.Script items.now hooks.now) self.old r.now self.new }
+        ensures { Advances (programs.Script items.now hooks.now) self.old r.now self.new }
     {
         if self.taking {
             self.took_signals(r);
@@ -211,12 +207,10 @@ impl Walk {
 
     // Records that an item was called, or exit.
     fn took_item(&mut self, items: &Items, r: &Reply)
-        requires over { self.old.over ≡ false }
-        requires waiting { self.old.waiting ≡ false }
-        requires taking { self.old.taking ≡ false }
+        requires { self.old.taking ≡ false }
         ensures { (table : List Act)
             → calls_from table self.old.given self.old.signal ≡ []
-            → Moves (programs.Script items.now table) self.old r.now self.new }
+            → Advances (programs.Script items.now table) self.old r.now self.new }
     {
         let events = items.as_slice();
         if events.len() <= self.item {

@@ -1,37 +1,19 @@
 -- Texts cut into characters.
 use Rattle.std.proofs.Common.{◌≡◌, ⊎_elim, ℕ, zero, suc, ◌-◌, ◌<◌, ◌≤◌, Bool, true, false, cond, ◌&&◌, ◌||◌, List, [], ◌∷◌, ◌++◌, length, take, drop, refl, sym, ap, ◌∙◌, subst, arith, append_assoc}
 use Rattle.std.proofs.Math.Seq.{drop-length}
-use Rattle.std.proofs.lemmas.Bool.{and_left, and_parts, and_right, and_from, cases_Bool, cond-true, cond-false, false≢true, or_cases, or_from}
+use Rattle.std.proofs.lemmas.Bool.{and_from, and_left, and_parts, and_right, cases_Bool, cond-false, cond-true, false≢true, or_cases, or_from, or_right}
 use Rattle.std.proofs.lemmas.Bool.Decides.{nat_tests}
 use Rattle.std.proofs.lemmas.List.{append-nil, drop-append-le, length-drop, length-take}
 use Rattle.std.specs.List.{concat}
-use Rattle.vt_chars.proofs.Prefixes.{of_two, of_three, of_four, wider}
 use Rattle.vt_chars.specs.Characters.{AsciiCuts, ByteMore, CharactersAreAll, characters, characters_past, first_of, is_part, with_byte}
 use Rattle.vt_chars.specs.Utf8.{is_begun, is_second, is_tail, is_well_formed, within}
-
-or_right : (a b : Bool) → b ≡ true → (a || b) ≡ true
-or_right true b is = refl
-or_right false b is = is
 
 -- what is before the last byte of a part begins one
 before_last : (a : ℕ) (text : List ℕ) (b : ℕ) → is_part ((a ∷ text) ++ b ∷ []) ≡ true
     → is_begun (a ∷ text) ≡ true
-before_last a [] b is = ⊎_elim
-    (λ (whole : is_well_formed (a ∷ b ∷ []) ≡ true). of_two a b whole)
-    (λ (begun : is_begun (a ∷ b ∷ []) ≡ true).
-    wider 0xE0 0xF4 0xC2 0xF4 a (omega arith) (omega arith) (and_parts _ _ begun).0)
-    (or_cases _ _ is)
-before_last a (c ∷ []) b is = ⊎_elim
-    (λ (whole : is_well_formed (a ∷ c ∷ b ∷ []) ≡ true). (of_three a c b whole).1)
-    (λ (begun : is_begun (a ∷ c ∷ b ∷ []) ≡ true).
-    let q : ((within 0xF0 0xF4 a && is_second a c) ≡ true) × (is_tail b ≡ true) = and_parts _ _ begun in
-    let p : (within 0xF0 0xF4 a ≡ true) × (is_second a c ≡ true) = and_parts _ _ q.0 in
-    and_from _ _ (wider 0xF0 0xF4 0xE0 0xF4 a (omega arith) (omega arith) p.0) p.1)
-    (or_cases _ _ is)
-before_last a (c ∷ d ∷ []) b is = ⊎_elim
-    (λ (whole : is_well_formed (a ∷ c ∷ d ∷ b ∷ []) ≡ true). (of_four a c d b whole).2)
-    (λ (begun : is_begun (a ∷ c ∷ d ∷ b ∷ []) ≡ true). absurd (false≢true begun))
-    (or_cases _ _ is)
+before_last a [] b is = grind (arith, nat_tests)
+before_last a (c ∷ []) b is = grind (arith, nat_tests)
+before_last a (c ∷ d ∷ []) b is = grind (arith, nat_tests)
 before_last a (c ∷ d ∷ e ∷ []) b is = absurd (false≢true is)
 before_last a (c ∷ d ∷ e ∷ f ∷ text) b is = absurd (false≢true is)
 
@@ -210,30 +192,16 @@ filled_by (suc n) (a ∷ text) few =
     omega (arith, length-drop (length c) (a ∷ text), first_some a text, few) in
     subst Filled (sym (first_then_left a text)) (first_some a text, filled_by n left shorter)
 
-no_tail : (b : ℕ) → b < 0x80 → is_tail b ≡ false
-no_tail b low = grind (arith, nat_tests)
-
-no_second : (a b : ℕ) → b < 0x80 → is_second a b ≡ false
-no_second a b low = grind (arith, nat_tests)
-
-no_lead : (low high b : ℕ) → b < 0x80 → 0x80 ≤ low → within low high b ≡ false
-no_lead low high b is above = grind (arith, nat_tests)
-
 -- a byte below 80 goes on no character, and none goes on it
 ends_apart : (a : ℕ) (text : List ℕ) (b : ℕ) → b < 0x80 → is_part ((a ∷ text) ++ b ∷ []) ≡ false
-ends_apart a [] b low =
-    or_from _ _ (and_right _ _ (no_tail b low)) (and_right _ _ (no_second a b low))
-ends_apart a (c ∷ []) b low =
-    or_from _ _ (and_right _ _ (no_tail b low)) (and_right _ _ (no_tail b low))
-ends_apart a (c ∷ d ∷ []) b low = or_from _ _ (and_right _ _ (no_tail b low)) refl
+ends_apart a [] b low = grind (arith, nat_tests)
+ends_apart a (c ∷ []) b low = grind (arith, nat_tests)
+ends_apart a (c ∷ d ∷ []) b low = grind (arith, nat_tests)
 ends_apart a (c ∷ d ∷ e ∷ []) b low = refl
 ends_apart a (c ∷ d ∷ e ∷ f ∷ text) b low = refl
 
 starts_apart : (b x : ℕ) → b < 0x80 → is_part (b ∷ x ∷ []) ≡ false
-starts_apart b x low =
-    or_from _ _
-    (and_left _ _ (no_lead 0xC2 0xDF b low (omega arith)))
-    (and_left _ _ (no_lead 0xE0 0xF4 b low (omega arith)))
+starts_apart b x low = grind (arith, nat_tests)
 
 at_end : (cs : List (List ℕ)) (b : ℕ) → b < 0x80 → Filled cs → with_byte cs b ≡ cs ++ (b ∷ []) ∷ []
 at_end [] b low filled = refl

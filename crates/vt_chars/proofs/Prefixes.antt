@@ -17,55 +17,24 @@ second_for a = cond (a == 0xE0) 0xA0 (cond (a == 0xF0) 0x90 0x80)
 second_allowed : (a : ℕ) → is_second a (second_for a) ≡ true
 second_allowed a = grind (arith, nat_tests)
 
-below : (low high top a : ℕ) → within low top a ≡ true → a ≤ high → within low high a ≡ true
-below low high top a inside small = grind (arith, nat_tests)
-
-above : (bottom low high a : ℕ) → within bottom high a ≡ true → low ≤ a → within low high a ≡ true
-above bottom low high a inside large = grind (arith, nat_tests)
-
-three : (a b c : ℕ) → within 0xE0 0xEF a ≡ true → is_second a b ≡ true → is_tail c ≡ true
-    → is_well_formed (a ∷ b ∷ c ∷ []) ≡ true
-three a b c first second third = and_from _ _ (and_from _ _ first second) third
-
-four : (a b c d : ℕ) → within 0xF0 0xF4 a ≡ true → is_second a b ≡ true → is_tail c ≡ true
-    → is_tail d ≡ true → is_well_formed (a ∷ b ∷ c ∷ d ∷ []) ≡ true
-four a b c d first second third fourth =
-    and_from _ _ (and_from _ _ (and_from _ _ first second) third) fourth
-
 begun_one : (a : ℕ) → within 0xC2 0xF4 a ≡ true → Begins (a ∷ [])
 begun_one a is = ⊎_elim
-    (λ (short : a < 0xE0). (0x80 ∷ [], some 0x80 [], and_from _ _ (below 0xC2 0xDF 0xF4 a is (omega arith)) refl))
+    (λ (short : a < 0xE0). (0x80 ∷ [], some _ _, grind (arith, nat_tests)))
     (λ (long : 0xE0 ≤ a). ⊎_elim
-    (λ (middle : a < 0xF0). (
-      second_for a ∷ 0x80 ∷ [],
-      some _ _,
-      three a (second_for a) 0x80 (above 0xC2 0xE0 0xEF a (below 0xC2 0xEF 0xF4 a is (omega arith)) long) (second_allowed a) refl,
-    ))
-    (λ (longest : 0xF0 ≤ a). (
-      second_for a ∷ 0x80 ∷ 0x80 ∷ [],
-      some _ _,
-      four a (second_for a) 0x80 0x80 (above 0xC2 0xF0 0xF4 a is longest) (second_allowed a) refl refl,
-    ))
+    (λ (middle : a < 0xF0). (second_for a ∷ 0x80 ∷ [], some _ _, grind (arith, nat_tests, second_allowed a)))
+    (λ (longest : 0xF0 ≤ a). (second_for a ∷ 0x80 ∷ 0x80 ∷ [], some _ _, grind (arith, nat_tests, second_allowed a)))
     (cases_lt a 0xF0))
     (cases_lt a 0xE0)
 
 begun_two : (a b : ℕ) → within 0xE0 0xF4 a ≡ true → is_second a b ≡ true → Begins (a ∷ b ∷ [])
 begun_two a b first second = ⊎_elim
-    (λ (short : a < 0xF0). (
-      0x80 ∷ [],
-      some 0x80 [],
-      three a b 0x80 (below 0xE0 0xEF 0xF4 a first (omega arith)) second refl,
-    ))
-    (λ (long : 0xF0 ≤ a). (
-      0x80 ∷ 0x80 ∷ [],
-      some _ _,
-      four a b 0x80 0x80 (above 0xE0 0xF0 0xF4 a first long) second refl refl,
-    ))
+    (λ (short : a < 0xF0). (0x80 ∷ [], some _ _, grind (arith, nat_tests)))
+    (λ (long : 0xF0 ≤ a). (0x80 ∷ 0x80 ∷ [], some _ _, grind (arith, nat_tests)))
     (cases_lt a 0xF0)
 
 begun_three : (a b c : ℕ) → within 0xF0 0xF4 a ≡ true → is_second a b ≡ true → is_tail c ≡ true
     → Begins (a ∷ b ∷ c ∷ [])
-begun_three a b c first second third = (0x80 ∷ [], some 0x80 [], four a b c 0x80 first second third refl)
+begun_three a b c first second third = (0x80 ∷ [], some _ _, grind (arith, nat_tests))
 
 pub begun_begins : (text : List ℕ) → is_begun text ≡ true → Begins text
 begun_begins [] is = absurd (false≢true is)
@@ -79,46 +48,18 @@ begun_begins (a ∷ b ∷ c ∷ []) is =
     begun_three a b c p.0 p.1 q.1
 begun_begins (a ∷ b ∷ c ∷ d ∷ rest) is = absurd (false≢true is)
 
-pub wider : (low high bottom top a : ℕ) → bottom ≤ low → high ≤ top → within low high a ≡ true
-    → within bottom top a ≡ true
-wider low high bottom top a under over inside = grind (arith, nat_tests)
-
--- the beginnings of well-formed sequences of two, three and four bytes
-pub of_two : (a b : ℕ) → is_well_formed (a ∷ b ∷ []) ≡ true → is_begun (a ∷ []) ≡ true
-of_two a b is = wider 0xC2 0xDF 0xC2 0xF4 a (omega arith) (omega arith) (and_parts _ _ is).0
-
-pub of_three : (a b c : ℕ) → is_well_formed (a ∷ b ∷ c ∷ []) ≡ true
-    → (is_begun (a ∷ []) ≡ true) × (is_begun (a ∷ b ∷ []) ≡ true)
-of_three a b c is =
-    let q : ((within 0xE0 0xEF a && is_second a b) ≡ true) × (is_tail c ≡ true) = and_parts _ _ is in
-    let p : (within 0xE0 0xEF a ≡ true) × (is_second a b ≡ true) = and_parts _ _ q.0 in (
-      wider 0xE0 0xEF 0xC2 0xF4 a (omega arith) (omega arith) p.0,
-      and_from _ _ (wider 0xE0 0xEF 0xE0 0xF4 a (omega arith) (omega arith) p.0) p.1,
-    )
-
-pub of_four : (a b c d : ℕ) → is_well_formed (a ∷ b ∷ c ∷ d ∷ []) ≡ true
-    → (is_begun (a ∷ []) ≡ true) × (is_begun (a ∷ b ∷ []) ≡ true) × (is_begun (a ∷ b ∷ c ∷ []) ≡ true)
-of_four a b c d is =
-    let r : ((within 0xF0 0xF4 a && is_second a b && is_tail c) ≡ true) × (is_tail d ≡ true) = and_parts _ _ is in
-    let q : ((within 0xF0 0xF4 a && is_second a b) ≡ true) × (is_tail c ≡ true) = and_parts _ _ r.0 in
-    let p : (within 0xF0 0xF4 a ≡ true) × (is_second a b ≡ true) = and_parts _ _ q.0 in (
-      wider 0xF0 0xF4 0xC2 0xF4 a (omega arith) (omega arith) p.0,
-      and_from _ _ (wider 0xF0 0xF4 0xE0 0xF4 a (omega arith) (omega arith) p.0) p.1,
-      r.0,
-    )
-
 prefix : (text more : List ℕ) → text ≢ [] → more ≢ [] → is_well_formed (text ++ more) ≡ true
     → is_begun text ≡ true
 prefix [] more some rest is = absurd (some refl)
 prefix text [] some rest is = absurd (rest refl)
-prefix (a ∷ []) (b ∷ []) some rest is = of_two a b is
-prefix (a ∷ []) (b ∷ c ∷ []) some rest is = (of_three a b c is).0
-prefix (a ∷ []) (b ∷ c ∷ d ∷ []) some rest is = (of_four a b c d is).0
+prefix (a ∷ []) (b ∷ []) some rest is = grind (arith, nat_tests)
+prefix (a ∷ []) (b ∷ c ∷ []) some rest is = grind (arith, nat_tests)
+prefix (a ∷ []) (b ∷ c ∷ d ∷ []) some rest is = grind (arith, nat_tests)
 prefix (a ∷ []) (b ∷ c ∷ d ∷ e ∷ more) some rest is = absurd (false≢true is)
-prefix (a ∷ b ∷ []) (c ∷ []) some rest is = (of_three a b c is).1
-prefix (a ∷ b ∷ []) (c ∷ d ∷ []) some rest is = (of_four a b c d is).1
+prefix (a ∷ b ∷ []) (c ∷ []) some rest is = grind (arith, nat_tests)
+prefix (a ∷ b ∷ []) (c ∷ d ∷ []) some rest is = grind (arith, nat_tests)
 prefix (a ∷ b ∷ []) (c ∷ d ∷ e ∷ more) some rest is = absurd (false≢true is)
-prefix (a ∷ b ∷ c ∷ []) (d ∷ []) some rest is = (of_four a b c d is).2
+prefix (a ∷ b ∷ c ∷ []) (d ∷ []) some rest is = grind (arith, nat_tests)
 prefix (a ∷ b ∷ c ∷ []) (d ∷ e ∷ more) some rest is = absurd (false≢true is)
 prefix (a ∷ b ∷ c ∷ d ∷ []) (e ∷ more) some rest is = absurd (false≢true is)
 prefix (a ∷ b ∷ c ∷ d ∷ e ∷ text) more some rest is = absurd (false≢true is)
@@ -126,20 +67,12 @@ prefix (a ∷ b ∷ c ∷ d ∷ e ∷ text) more some rest is = absurd (false≢
 pub begins_begun : (text : List ℕ) → text ≢ [] → Begins text → is_begun text ≡ true
 begins_begun text some (more, rest, is) = prefix text more some rest is
 
-below-above : (high low a bottom top : ℕ) → high < low → within bottom high a ≡ true
-    → within low top a ≡ true → ⊥
-below-above high low a bottom top apart small large = grind (arith, nat_tests)
-
 -- a whole sequence begins no longer one
 apart : (text : List ℕ) → is_well_formed text ≡ true → is_begun text ≡ true → ⊥
 apart [] whole begun = false≢true whole
 apart (a ∷ []) whole begun = grind (arith, nat_tests)
-apart (a ∷ b ∷ []) whole begun =
-    below-above 0xDF 0xE0 a _ _ (omega arith) (and_parts _ _ whole).0 (and_parts _ _ begun).0
-apart (a ∷ b ∷ c ∷ []) whole begun =
-    below-above 0xEF 0xF0 a _ _ (omega arith)
-    (and_parts _ _ (and_parts _ _ whole).0).0
-    (and_parts _ _ (and_parts _ _ begun).0).0
+apart (a ∷ b ∷ []) whole begun = grind (arith, nat_tests)
+apart (a ∷ b ∷ c ∷ []) whole begun = grind (arith, nat_tests)
 apart (a ∷ b ∷ c ∷ d ∷ rest) whole begun = false≢true begun
 
 some_bytes : (before : List ℕ) (b : ℕ) → before ++ b ∷ [] ≢ []

@@ -1,1 +1,2 @@
+mod Printables
 pub mod Lengths

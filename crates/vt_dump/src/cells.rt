@@ -1,6 +1,7 @@
 //! The cells of a grid, written in the form of a dump.
-ghost use Rattle.std.specs.Prelude.{◌≡◌, ◌+◌, ◌*◌, ◌<◌, ◌≤◌, ◌++◌, length};
+ghost use Rattle.std.specs.Prelude.{◌+◌, ◌*◌, ◌<◌, ◌≤◌};
 ghost use Rattle.std.specs.List.{flat_map};
+ghost use Rattle.vt_base.specs.Bytes.{Grew};
 ghost use Rattle.vt_dump.specs.Dumps.{of_cells};
 ghost use Rattle.vt_dump.specs.Forms.{cell_bytes, most_bytes};
 ghost use Rattle.vt_grid.specs.Grid.{IsFull, row_at};
@@ -12,8 +13,7 @@ use vt_grid::Grid;
 /// Appends all cells in reading order.
 pub(crate) fn add_cells(form: Form, g: &Grid, out: &mut Bytes)
     requires { g.now.rows * (g.now.cols * most_bytes form) ≤ out.old.room }
-    ensures bytes { out.new.bytes ≡ out.old.bytes ++ of_cells (cell_bytes form) g.now }
-    ensures room { out.new.room + length out.new.bytes ≡ out.old.room + length out.old.bytes }
+    ensures grew { Grew (of_cells (cell_bytes form) g.now) out.old out.new }
     ensures full { IsFull g.now }
 {
     for y in 0..g.size().rows {
@@ -25,9 +25,7 @@ pub(crate) fn add_cells(form: Form, g: &Grid, out: &mut Bytes)
 pub(crate) fn add_row(form: Form, g: &Grid, y: u8, out: &mut Bytes)
     requires row { y < g.now.rows }
     requires room { g.now.cols * most_bytes form ≤ out.old.room }
-    ensures bytes { out.new.bytes
-        ≡ out.old.bytes ++ flat_map (cell_bytes form) (row_at g.now y) }
-    ensures room { out.new.room + length out.new.bytes ≡ out.old.room + length out.old.bytes }
+    ensures grew { Grew (flat_map (cell_bytes form) (row_at g.now y)) out.old out.new }
     ensures most { out.old.room ≤ out.new.room + g.now.cols * most_bytes form }
 {
     g.stays_full();

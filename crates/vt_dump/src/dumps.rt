@@ -1,5 +1,6 @@
 //! The three dumps of a screen as bytes.
-ghost use Rattle.std.specs.Prelude.{◌≡◌, ◌+◌, ◌*◌, ◌≤◌, ◌++◌, length};
+ghost use Rattle.std.specs.Prelude.{◌≡◌, ◌+◌, ◌*◌, ◌≤◌};
+ghost use Rattle.vt_base.specs.Bytes.{Grew};
 ghost use Rattle.vt_dump.specs.Dumps.{cell_count, codes_bytes, vcs_bytes, vcsa_bytes};
 
 use crate::cells::add_cells;
@@ -10,9 +11,8 @@ use vt_grid::Grid;
 /// Appends a byte for each cell: its character, or `?` if that is more than one byte (vcs(4)).
 pub fn vcs(g: &Grid, out: &mut Bytes)
     requires { cell_count g.now ≤ out.old.room }
-    ensures bytes { out.new.bytes ≡ out.old.bytes ++ vcs_bytes g.now }
+    ensures grew { Grew (vcs_bytes g.now) out.old out.new }
     ensures room { out.new.room + cell_count g.now ≡ out.old.room }
-    ensures whole { out.new.room + length out.new.bytes ≡ out.old.room + length out.old.bytes }
 {
     add_cells(Form::Character, g, out)
 }
@@ -21,9 +21,8 @@ pub fn vcs(g: &Grid, out: &mut Bytes)
 /// its attribute (vcs(4), `/dev/vcsa`).
 pub fn vcsa(g: &Grid, x: u8, y: u8, reversed: bool, out: &mut Bytes)
     requires { 4 + 2 * cell_count g.now ≤ out.old.room }
-    ensures bytes { out.new.bytes ≡ out.old.bytes ++ vcsa_bytes g.now x y reversed }
+    ensures grew { Grew (vcsa_bytes g.now x y reversed) out.old out.new }
     ensures room { out.new.room + 4 + 2 * cell_count g.now ≡ out.old.room }
-    ensures whole { out.new.room + length out.new.bytes ≡ out.old.room + length out.old.bytes }
 {
     let size = g.size();
     out.append(&[size.rows, size.cols, x, y]);
@@ -33,9 +32,8 @@ pub fn vcsa(g: &Grid, x: u8, y: u8, reversed: bool, out: &mut Bytes)
 /// Appends four bytes for each cell: its code point, the lowest byte first. This project's own.
 pub fn codes(g: &Grid, out: &mut Bytes)
     requires { 4 * cell_count g.now ≤ out.old.room }
-    ensures bytes { out.new.bytes ≡ out.old.bytes ++ codes_bytes g.now }
+    ensures grew { Grew (codes_bytes g.now) out.old out.new }
     ensures room { out.new.room + 4 * cell_count g.now ≡ out.old.room }
-    ensures whole { out.new.room + length out.new.bytes ≡ out.old.room + length out.old.bytes }
 {
     add_cells(Form::Code, g, out)
 }

@@ -1,4 +1,5 @@
-ghost use Rattle.std.specs.Prelude.{◌≡◌, ◌+◌, ◌≤◌, ◌++◌, length};
+ghost use Rattle.std.specs.Prelude.{◌≡◌, ◌+◌, ◌≤◌};
+ghost use Rattle.vt_base.specs.Bytes.{Grew};
 ghost use Rattle.vt_dump.specs.Dumps.{attribute, character};
 ghost use Rattle.vt_dump.specs.Forms.{cell_bytes, most_bytes};
 ghost use Rattle.vt_dump.specs.Rows.{cell_text, is_shown};
@@ -22,8 +23,7 @@ pub(crate) enum Form {
 /// Appends a cell's bytes. They must fit the room.
 pub(crate) fn add_cell(form: Form, cell: Cell, out: &mut Bytes)
     requires { most_bytes form ≤ out.old.room }
-    ensures bytes { out.new.bytes ≡ out.old.bytes ++ cell_bytes form cell }
-    ensures room { out.new.room + length out.new.bytes ≡ out.old.room + length out.old.bytes }
+    ensures grew { Grew (cell_bytes form cell) out.old out.new }
     ensures most { out.old.room ≤ out.new.room + most_bytes form }
 {
     match form {
@@ -36,12 +36,17 @@ pub(crate) fn add_cell(form: Form, cell: Cell, out: &mut Bytes)
     }
 }
 
+// Most characters are printable ones of ASCII: each is its own byte.
+#[tactic(auto, using(crate::proofs::Printables::printable_text))]
 fn add_text(cell: Cell, out: &mut Bytes)
     requires { 4 ≤ out.old.room }
-    ensures bytes { out.new.bytes ≡ out.old.bytes ++ cell_text cell }
-    ensures room { out.new.room + length out.new.bytes ≡ out.old.room + length out.old.bytes }
+    ensures grew { Grew (cell_text cell) out.old out.new }
     ensures most { out.old.room ≤ out.new.room + 4 }
 {
+    if 0x20 <= cell.code && cell.code <= 0x7E {
+        out.push(cell.code as u8);
+        return;
+    }
     if cell.code == HALF {
         return;
     }

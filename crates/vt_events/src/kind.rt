@@ -9,7 +9,7 @@ use crate::kind_guess::guess_kind;
 use vt_base::Bytes;
 
 /// The most numbers of a call.
-pub const NUMBERS: usize = 6;
+pub const MOST_NUMBERS: usize = 6;
 
 /// The kind of a call, named as its variant of [`Event`]. This project's own.
 #[derive(Clone, Copy, PartialEq, Eq)]
@@ -98,7 +98,7 @@ impl Kind {
     /// How many numbers follow the name.
     pub fn count(self) -> usize
         ensures same { result ≡ length (numbers_of (blank self)) }
-        ensures most { result ≤ NUMBERS }
+        ensures most { result ≤ MOST_NUMBERS }
     {
         form_of(self).numbers
     }

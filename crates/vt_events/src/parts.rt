@@ -2,7 +2,7 @@ ghost use Rattle.std.specs.Prelude.{◌≡◌, ◌≤◌, length, option_copied}
 ghost use Rattle.vt_events.specs.Calls.{make_parts, parts_of};
 
 use crate::Event;
-use crate::kind::{Kind, NUMBERS};
+use crate::kind::{Kind, MOST_NUMBERS};
 use arrayvec::ArrayVec;
 use std::array;
 use std::marker::Model;
@@ -12,7 +12,7 @@ use std::marker::Model;
 #[derive(Drop)]
 pub struct Parts<'a> {
     kind: Kind,
-    numbers: ArrayVec<u16, NUMBERS>,
+    numbers: ArrayVec<u16, MOST_NUMBERS>,
     held: Option<&'a [u8]>,
 }
 
@@ -117,7 +117,7 @@ impl<'a> Parts<'a> {
 // The parts of a kind, of at most six numbers, and of bytes.
 #[inline(always)]
 fn make_parts<'a>(kind: Kind, numbers: &[u16], held: Option<&'a [u8]>) -> Parts<'a>
-    requires { length numbers.now ≤ NUMBERS }
+    requires { length numbers.now ≤ MOST_NUMBERS }
     ensures { result ≡ make_parts kind numbers.now (option_copied held.entry) }
 {
     let mut kept = ArrayVec::new();

@@ -1,11 +1,9 @@
 -- The meaning of a text as a certificate is one.
-use Rattle.std.proofs.Common.{◌≡◌, ◌≢◌, ℕ, ◌+◌, ◌≤◌, List, [], ◌∷◌, ◌++◌, Result, Ok, Err, length, map, refl, sym, ap, subst, ◌∙◌, append_assoc, arith}
-use Rattle.std.specs.List.{All, flat_map}
-use Rattle.std.proofs.lemmas.List.{append-nil, map-append}
-use Rattle.std.proofs.lemmas.List.Concat.{flat_map-append}
-use Rattle.std.proofs.lemmas.List.Elements.{All-head, All-push, All-tail}
-use Rattle.vt_journal.proofs.Once.{some_line}
-use Rattle.vt_explain.proofs.Items.{head_line_once, item_line_once}
+use Rattle.std.proofs.Common.{◌≡◌, ◌≢◌, ℕ, ◌+◌, ◌≤◌, List, [], ◌∷◌, ◌++◌, Result, Ok, Err, length, refl, sym, ap, subst, ◌∙◌, arith}
+use Rattle.std.specs.List.{All}
+use Rattle.std.proofs.lemmas.List.{append-nil}
+use Rattle.vt_journal.proofs.OneSpelling.{IsSoFar, first_once, same_front, some_line}
+use Rattle.vt_explain.proofs.Items.{head_spelling, item_spelling}
 use Rattle.vt_explain.specs.CertText.{Begins, CertSays, IsFit, IsNoHead, IsNoItem, OneCert, PrintedIsRead, ReadIsPrinted, cert_text, head_words, item_lines, item_words, line_number}
 use Rattle.vt_explain.specs.CertText.CertSays.{BadHead, BadLine, OtherCount, Whole}
 use Rattle.vt_explain.specs.Reading.{IsFaultAt, IsSaid}
@@ -13,26 +11,6 @@ use Rattle.vt_explain.specs.declared.cert_error.CertError.{CertError}
 use Rattle.vt_explain.specs.declared.cert_error.CertError.TheVariants as errors
 use Rattle.vt_explain.specs.declared.hop_why.HopWhy.{HopWhy}
 use Rattle.vt_journal.specs.Journal.{line_text}
-
-next_line : (w : HopWhy) (c : List HopWhy) (u : List ℕ)
-    → item_lines (w ∷ c) ++ u ≡ line_text (item_words w) ++ (item_lines c ++ u)
-next_line w c u = append_assoc (line_text (item_words w)) (item_lines c) u
-
--- after the items there is no other, so they are all
-same_front : (c d : List HopWhy) (u v : List ℕ) → All IsFit c → All IsFit d → IsNoItem u
-    → IsNoItem v → item_lines c ++ u ≡ item_lines d ++ v → (c ≡ d) × (u ≡ v)
-same_front [] [] u v fit_c fit_d none_u none_v same = (refl, same)
-same_front [] (x ∷ d) u v fit_c fit_d none_u none_v same =
-    absurd (none_u x (item_lines d ++ v) (All-head IsFit x d fit_d) (same ∙ next_line x d v))
-same_front (w ∷ c) [] u v fit_c fit_d none_u none_v same =
-    absurd (none_v w (item_lines c ++ u) (All-head IsFit w c fit_c) (sym same ∙ next_line w c u))
-same_front (w ∷ c) (x ∷ d) u v fit_c fit_d none_u none_v same =
-    let first =
-    item_line_once w x (item_lines c ++ u) (item_lines d ++ v) (All-head IsFit w c fit_c)
-    (All-head IsFit x d fit_d) (sym (next_line w c u) ∙ same ∙ next_line x d v) in
-    let others =
-    same_front c d u v (All-tail IsFit w c fit_c) (All-tail IsFit x d fit_d) none_u none_v first.1 in
-    (λ j. first.0 j ∷ others.0 j, others.1)
 
 -- the result after the items, if no item follows them
 data Follows (count : ℕ) (c : List HopWhy) (u : List ℕ) : Result (List HopWhy) ℕ → Type 0 where
@@ -77,10 +55,10 @@ said_once text a b (Has count c u says begins no_item follows) (Lacks none) =
     absurd (none count (item_lines c ++ u) begins.head begins.parts)
 said_once text a b (Has m c u says begins no_item follows) (Has n d v also begins_d no_item_d follows_d) =
     let heads =
-    head_line_once m n (item_lines c ++ u) (item_lines d ++ v) begins.head begins_d.head
+    first_once head_spelling m n (item_lines c ++ u) (item_lines d ++ v) begins.head begins_d.head
     (sym begins.parts ∙ begins_d.parts) in
     let same =
-    same_front c d u v begins.fit begins_d.fit no_item no_item_d heads.1 in
+    same_front item_spelling c d u v begins.fit begins_d.fit no_item no_item_d heads.1 in
     follows_once m c u a b follows
     (subst (λ count. Follows count c u b) (sym heads.0)
     (subst (λ list. Follows n list u b) (sym same.0)
@@ -112,28 +90,12 @@ read_by text a c (OtherCount count d begins isnt) same = cc
 pub read_is_printed : ReadIsPrinted
 read_is_printed text c says = read_by text (Ok c) c says refl
 
--- so far these items were read, and the rest is left
-pub record IsSoFar (text : List ℕ) (c : List HopWhy) (rest : List ℕ) : Type 0 where
-  pub fit : All IsFit c
-  pub parts : text ≡ item_lines c ++ rest
-
-pub one_more : (text : List ℕ) (c : List HopWhy) (rest : List ℕ) (w : HopWhy) (behind : List ℕ)
-    → IsSoFar text c rest → IsFit w → rest ≡ line_text (item_words w) ++ behind
-    → IsSoFar text (c ++ w ∷ []) behind
-one_more text c rest w behind is fit next = record {
-  fit = All-push IsFit c w is.fit fit;
-  parts =
-      is.parts
-      ∙ ap (λ more. item_lines c ++ more) next
-      ∙ sym (append_assoc (item_lines c) (line_text (item_words w)) behind)
-      ∙ ap (λ lines. lines ++ behind)
-      (ap (λ line. item_lines c ++ line) (sym (append-nil (line_text (item_words w))))
-      ∙ sym (flat_map-append line_text (map item_words c) (item_words w ∷ []))
-      ∙ ap (flat_map line_text) (sym (map-append item_words c (w ∷ []))));
-}
+-- these items were read, and the rest is left
+abbrev pub AreSoFar : List ℕ → List HopWhy → List ℕ → Type 0
+AreSoFar = IsSoFar item_words IsFit
 
 pub begun : (whole text : List ℕ) (count : ℕ) (c : List HopWhy) (rest : List ℕ)
-    → count ≤ 4294967295 → whole ≡ line_text (head_words count) ++ text → IsSoFar text c rest
+    → count ≤ 4294967295 → whole ≡ line_text (head_words count) ++ text → AreSoFar text c rest
     → Begins whole count c rest
 begun whole text count c rest head is so_far = record {
   head = head;

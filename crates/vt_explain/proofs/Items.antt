@@ -1,18 +1,20 @@
 -- A line has the meaning of one item.
-use Rattle.std.proofs.Common.{◌≡◌, ℕ, ◌<◌, ◌≤◌, ◌^◌, Bool, true, false, true≢false, ◌&&◌, append-nil, List, [], ◌∷◌, ◌++◌, codes, decimal, refl, sym, ap, ◌∙◌, arith}
+use Rattle.std.proofs.Common.{◌≡◌, ℕ, ◌<◌, ◌≤◌, ◌^◌, Bool, true, false, true≢false, ◌&&◌, Option, Some, None, is_some, List, [], ◌∷◌, ◌++◌, codes, decimal, refl, sym, ap, ◌∙◌, arith}
+use Rattle.std.specs.Borrow.{Bor}
+use Rattle.std.specs.Option.{MatchOption}
 use Rattle.std.specs.Prelude.{◌==◌}
 use Rattle.std.proofs.lemmas.Fmt.{decimal_injective}
-use Rattle.vt_explain.proofs.Clear.{clear_number}
 use Rattle.vt_explain.specs.CertText.{IsFit, IsFitAsk, IsFitCause, asked_words, cause_words, head_words, item_words}
 use Rattle.vt_explain.specs.declared.hop_cause.HopCause.{HopCause}
 use Rattle.vt_explain.specs.declared.hop_cause.HopCause.TheVariants as why
 use Rattle.vt_explain.specs.declared.hop_why.HopWhy.{HopWhy}
-use Rattle.vt_journal.proofs.Clear.{are_clear, words_of_text-joined_by_blanks, line_joined_by_blanks}
-use Rattle.vt_journal.proofs.Once.{lines_once, same_number}
-use Rattle.vt_journal.specs.Cut.{words_of_text}
-use Rattle.vt_journal.specs.Journal.{line_text}
-use Rattle.vt_journal.specs.Lines.{IsLine}
-use Rattle.vt_journal.specs.Words.{joined_by_blanks}
+use Rattle.vt_journal.proofs.Clear.{are_clear, is_clear, is_clear-decimal}
+use Rattle.vt_journal.proofs.Once.{same_number, small}
+use Rattle.vt_journal.proofs.OneSpelling.{OneSpelling}
+use Rattle.vt_journal.specs.Taking.{if_none_left}
+
+clear_number : (n : ℕ) → n ≤ 4294967295 → is_clear (decimal n) ≡ true
+clear_number n fit = is_clear-decimal n (small n fit)
 
 clear_ask : (owner asked signal : ℕ) → IsFitAsk owner asked signal
     → are_clear (asked_words owner asked signal) ≡ true
@@ -40,25 +42,6 @@ clear_later w fit =
     let to = clear_number w.to (omega (arith, fit.to.1)) in
     let cause = clear_cause w.cause fit.cause in
     λ j. nth j && (from j && (to j && cause j))
-
-pub cut_item : (w : HopWhy) → IsFit w → words_of_text (joined_by_blanks (item_words w)) ≡ item_words w
-cut_item w fit =
-    words_of_text-joined_by_blanks (decimal w.at) (later_words w) (clear_number w.at fit.at) (clear_later w fit)
-
-pub line_item : (w : HopWhy) → IsFit w → IsLine (joined_by_blanks (item_words w))
-line_item w fit =
-    line_joined_by_blanks (decimal w.at) (later_words w) (clear_number w.at fit.at) (clear_later w fit)
-
-clear_count : (n : ℕ) → n ≤ 4294967295 → are_clear (decimal n ∷ []) ≡ true
-clear_count n fit =
-    let number = clear_number n fit in
-    λ j. number j && true
-
-pub cut_head : (n : ℕ) → n ≤ 4294967295 → words_of_text (joined_by_blanks (head_words n)) ≡ head_words n
-cut_head n fit = words_of_text-joined_by_blanks (codes "%explain") (decimal n ∷ []) refl (clear_count n fit)
-
-pub line_head : (n : ℕ) → n ≤ 4294967295 → IsLine (joined_by_blanks (head_words n))
-line_head n fit = line_joined_by_blanks (codes "%explain") (decimal n ∷ []) refl (clear_count n fit)
 
 -- words are one ask and the words after it, in one way
 record SameAsk (p a s q b t : ℕ) (u v : List (List ℕ)) : Type 0 where
@@ -119,7 +102,7 @@ cause_once (why.Died p a s) (why.Released q b t) u v fit_c fit_d same =
     absurd (true≢false (ap (begins_with 100) names))
 
 -- words are one item and the words after it, in one way
-pub item_once : (w x : HopWhy) (u v : List (List ℕ)) → IsFit w → IsFit x
+item_once : (w x : HopWhy) (u v : List (List ℕ)) → IsFit w → IsFit x
     → item_words w ++ u ≡ item_words x ++ v → (w ≡ x) × (u ≡ v)
 item_once w x u v fit_w fit_x same =
     let ats : decimal w.at ≡ decimal x.at = cc in
@@ -138,36 +121,34 @@ item_once w x u v fit_w fit_x same =
       cause.1,
     )
 
--- the first line of a text that is an item's is one, and so is that of a certificate
-pub item_line_once : (w x : HopWhy) (u v : List ℕ) → IsFit w → IsFit x
-    → line_text (item_words w) ++ u ≡ line_text (item_words x) ++ v → (w ≡ x) × (u ≡ v)
-item_line_once w x u v fit_w fit_x same =
-    let both = lines_once (item_words w) (item_words x) u v (line_item w fit_w) (line_item x fit_x) same in
-    let words : item_words w ≡ item_words x =
-    sym (cut_item w fit_w) ∙ ap words_of_text both.0 ∙ cut_item x fit_x in
-    ((item_once w x [] [] fit_w fit_x (ap (λ list. list ++ []) words)).0, both.1)
+pub item_spelling : OneSpelling item_words IsFit
+item_spelling = record {
+  clear = λ w fit. (let at = clear_number w.at fit.at in let others = clear_later w fit in λ j. at j && others j);
+  once = item_once;
+}
 
-pub head_line_once : (m n : ℕ) (u v : List ℕ) → m ≤ 4294967295 → n ≤ 4294967295
-    → line_text (head_words m) ++ u ≡ line_text (head_words n) ++ v → (m ≡ n) × (u ≡ v)
-head_line_once m n u v fit_m fit_n same =
-    let both = lines_once (head_words m) (head_words n) u v (line_head m fit_m) (line_head n fit_n) same in
-    let words : head_words m ≡ head_words n =
-    sym (cut_head m fit_m) ∙ ap words_of_text both.0 ∙ cut_head n fit_n in
+head_once : (m n : ℕ) (u v : List (List ℕ)) → m ≤ 4294967295 → n ≤ 4294967295
+    → head_words m ++ u ≡ head_words n ++ v → (m ≡ n) × (u ≡ v)
+head_once m n u v fit_m fit_n same =
     let numbers : decimal m ≡ decimal n = cc in
-    (same_number m n fit_m fit_n numbers, both.1)
+    let others : u ≡ v = cc in
+    (same_number m n fit_m fit_n numbers, others)
 
--- the words of a line that spells an item, or the first line
-pub item_cut : (line : List ℕ) (w : HopWhy) → IsFit w → joined_by_blanks (item_words w) ≡ line
-    → words_of_text line ≡ item_words w ++ []
-item_cut line w fit is =
-    ap words_of_text (sym is) ∙ cut_item w fit ∙ sym (append-nil (item_words w))
+pub head_spelling : OneSpelling head_words (λ n. n ≤ 4294967295)
+head_spelling = record { clear = λ n fit. ap (λ b. b && true) (clear_number n fit); once = head_once }
 
-pub head_cut : (line : List ℕ) (n : ℕ) → n ≤ 4294967295 → joined_by_blanks (head_words n) ≡ line
-    → words_of_text line ≡ head_words n ++ []
-head_cut line n fit is = ap words_of_text (sym is) ∙ cut_head n fit ∙ sym (append-nil (head_words n))
+-- if there is a next word some are left, and otherwise none
+pub left_some : {X : Type 0} (r : Option (Bor (List ℕ))) (old new : List (List ℕ)) (taken : Option X)
+    → MatchOption r ((old ≡ []) × (new ≡ [])) (λ word. old ≡ word.now ∷ new) → is_some r ≡ true
+    → if_none_left old taken ≡ None
+left_some (Some word) old new taken is some = ap (λ words. if_none_left words taken) is
+left_some None old new taken is some = cc
 
-pub head_rest : (m n : ℕ) (u v : List (List ℕ)) → head_words m ++ u ≡ head_words n ++ v → u ≡ v
-head_rest m n u v same = cc
+pub left_none : {X : Type 0} (r : Option (Bor (List ℕ))) (old new : List (List ℕ)) (taken : Option X)
+    → MatchOption r ((old ≡ []) × (new ≡ [])) (λ word. old ≡ word.now ∷ new) → is_some r ≡ false
+    → if_none_left old taken ≡ taken
+left_none (Some word) old new taken is none = cc
+left_none None old new taken is none = ap (λ words. if_none_left words taken) is.0
 
 -- the words that are left after the first words
 pub after_three : (w0 w1 w2 w3 : List (List ℕ)) (a b c d e f : List ℕ) (u : List (List ℕ))

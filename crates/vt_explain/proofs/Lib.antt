@@ -2,7 +2,6 @@ mod Answered
 mod Causes
 mod Certified
 mod Certs
-mod Clear
 mod Items
 mod Knowing
 mod Listening

@@ -1,8 +1,7 @@
 //! Items read from their lines.
-ghost use Rattle.std.specs.Prelude.{◌≡◌, ◌≢◌, ◌≤◌, ℕ, List, ◌∷◌, ◌++◌, codes, decimal, IfSome, IfNone};
+ghost use Rattle.std.specs.Prelude.{◌≡◌, ◌≢◌, ◌≤◌, ℕ, List, ◌∷◌, ◌++◌, codes, IfSome, IfNone};
 ghost use Rattle.vt_explain.specs.CertText.{IsFit, IsFitAsk, IsFitCause, asked_words, cause_words, head_words, item_words};
-ghost use Rattle.vt_explain.specs.declared.hop_cause.HopCause.{HopCause};
-ghost use Rattle.vt_explain.specs.declared.hop_why.HopWhy.{HopWhy};
+ghost use Rattle.vt_journal.specs.Taking.{Finds, Takes};
 ghost use Rattle.vt_journal.specs.Words.{joined_by_blanks};
 
 use crate::numbers::{take_caller, take_console, take_number, take_signal};
@@ -12,23 +11,17 @@ use vt_journal::{Words, take_word};
 
 /// The number of items in the first line of a certificate.
 pub(crate) fn read_count(line: &[u8]) -> Option<u32>
-    ensures found { IfSome result (λ n. joined_by_blanks (head_words n) ≡ line.now) }
-    ensures none { IfNone result
-        ((n : ℕ) → n ≤ 4_294_967_295 → joined_by_blanks (head_words n) ≢ line.now) }
+    ensures { Finds (λ n. joined_by_blanks (head_words n)) (λ n. n ≤ 4_294_967_295) line.now result }
 {
     let mut words = Words::of(line);
-    let count = take_head(&mut words)?;
-    if words.next().is_some() {
-        return None;
-    }
-    Some(count)
+    let count = take_head(&mut words);
+    words.if_none_left(count)
 }
 
 // The number after the name of the first line.
 fn take_head(words: &mut Words) -> Option<u32>
-    ensures found { IfSome result (λ n. words.old ≡ head_words n ++ words.new) }
-    ensures none { IfNone result ((n : ℕ) (rest : List (List ℕ)) → n ≤ 4_294_967_295
-        → words.old ≢ head_words n ++ rest) }
+    ensures takes { Takes head_words (λ n. n ≤ 4_294_967_295) words.old words.new result }
+    ensures fit { IfSome result (λ n. n ≤ 4_294_967_295) }
 {
     if !take_word(words, b"%explain") {
         return None;
@@ -38,9 +31,8 @@ fn take_head(words: &mut Words) -> Option<u32>
 
 /// The item that the line spells.
 pub(crate) fn read_item(line: &[u8]) -> Option<HopWhy>
-    ensures found { IfSome result (λ w. joined_by_blanks (item_words w) ≡ line.now) }
+    ensures finds { Finds (λ w. joined_by_blanks (item_words w)) IsFit line.now result }
     ensures fit { IfSome result IsFit }
-    ensures none { IfNone result ((w : HopWhy) → IsFit w → joined_by_blanks (item_words w) ≢ line.now) }
 {
     let mut words = Words::of(line);
     let item = take_item(&mut words)?;
@@ -52,10 +44,8 @@ pub(crate) fn read_item(line: &[u8]) -> Option<HopWhy>
 
 // The item that the next words are.
 fn take_item(words: &mut Words) -> Option<HopWhy>
-    ensures found { IfSome result (λ w. words.old ≡ item_words w ++ words.new) }
+    ensures takes { Takes item_words IsFit words.old words.new result }
     ensures fit { IfSome result IsFit }
-    ensures none { IfNone result ((w : HopWhy) (rest : List (List ℕ)) → IsFit w
-        → words.old ≢ item_words w ++ rest) }
 {
     let at = take_number(words)?;
     let nth = take_number(words)?;
@@ -73,10 +63,8 @@ fn take_item(words: &mut Words) -> Option<HopWhy>
 
 // The cause that the next words are.
 fn take_cause(words: &mut Words) -> Option<HopCause>
-    ensures found { IfSome result (λ c. words.old ≡ cause_words c ++ words.new) }
+    ensures takes { Takes cause_words IsFitCause words.old words.new result }
     ensures fit { IfSome result IsFitCause }
-    ensures none { IfNone result ((c : HopCause) (rest : List (List ℕ)) → IsFitCause c
-        → words.old ≢ cause_words c ++ rest) }
 {
     let name = words.next()?;
     if name == b"free".as_slice() {
@@ -93,11 +81,8 @@ fn take_cause(words: &mut Words) -> Option<HopCause>
 
 // The cause in the words after `released`.
 fn take_release(words: &mut Words) -> Option<HopCause>
-    ensures found { IfSome result
-        (λ c. codes "released" ∷ words.old ≡ cause_words c ++ words.new) }
+    ensures takes { Takes cause_words IsFitCause (codes "released" ∷ words.old) words.new result }
     ensures fit { IfSome result IsFitCause }
-    ensures none { IfNone result ((c : HopCause) (rest : List (List ℕ)) → IsFitCause c
-        → codes "released" ∷ words.old ≢ cause_words c ++ rest) }
 {
     let Ask {
         owner,
@@ -113,10 +98,8 @@ fn take_release(words: &mut Words) -> Option<HopCause>
 
 // The cause in the words after `died`.
 fn take_death(words: &mut Words) -> Option<HopCause>
-    ensures found { IfSome result (λ c. codes "died" ∷ words.old ≡ cause_words c ++ words.new) }
+    ensures takes { Takes cause_words IsFitCause (codes "died" ∷ words.old) words.new result }
     ensures fit { IfSome result IsFitCause }
-    ensures none { IfNone result ((c : HopCause) (rest : List (List ℕ)) → IsFitCause c
-        → codes "died" ∷ words.old ≢ cause_words c ++ rest) }
 {
     let Ask {
         owner,

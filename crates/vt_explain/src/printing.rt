@@ -1,15 +1,14 @@
 //! The text of a certificate.
-ghost use Rattle.std.specs.Prelude.{◌≡◌, ◌++◌, decimal, IfOk, OnErr, OnOk};
+ghost use Rattle.std.specs.Prelude.{◌≡◌, ◌++◌, IfOk, OnOk};
 ghost use Rattle.std.specs.List.{All};
 ghost use Rattle.vt_explain.specs.CertText.{IsFit, IsFitAsk, IsFitCause, asked_words, cause_words, cert_text, item_words};
 ghost use Rattle.vt_journal.specs.Journal.{line_text};
 ghost use Rattle.vt_journal.specs.Text.{blank_before_each};
 
 use crate::{HopCause, HopWhy};
-use itoa::Buffer;
 use std::alloc::Global;
 use vt_base::{Bytes, CallerNo, NoMemory, Signal};
-use vt_journal::{add, add_next};
+use vt_journal::{add, add_next, add_number};
 
 /// The certificate's text (docs/EXPLAIN.md). It can be read again.
 pub fn print_cert(alloc: Global, c: &[HopWhy]) -> Result<Bytes, NoMemory>
@@ -31,22 +30,13 @@ fn add_item(alloc: Global, text: &mut Bytes, w: &HopWhy) -> Result<(), NoMemory>
     ensures ok { OnOk result (text.new.bytes ≡ text.old.bytes ++ line_text (item_words w.now)) }
     ensures fit { OnOk result (IsFit w.now) }
 {
-    add_number(alloc, text, w.at)?;
+    add_number(alloc, text, u64::from(w.at))?;
     add_next(alloc, text, u64::from(w.nth))?;
     add_next(alloc, text, u64::from(w.from.get()))?;
     add_next(alloc, text, u64::from(w.to.get()))?;
     add_cause(alloc, text, &w.cause)?;
     add(alloc, text, b"\n")?;
     Ok(())
-}
-
-// Adds the number.
-fn add_number(alloc: Global, text: &mut Bytes, n: u32) -> Result<(), NoMemory>
-    ensures ok { OnOk result (text.new.bytes ≡ text.old.bytes ++ decimal n) }
-    ensures err { OnErr result (text.new.bytes ≡ text.old.bytes) }
-{
-    let mut buffer = Buffer::new();
-    add(alloc, text, buffer.format(n).as_bytes())
 }
 
 // Adds the words of a cause, each after a blank.

@@ -1,5 +1,5 @@
 -- A grid of cells as contracts see it: its rows, and the result of each edit.
-use Rattle.std.specs.Prelude.{◌≡◌, ℕ, ◌+◌, ◌-◌, min, List, [], ◌∷◌, ◌++◌, length, map, take, drop, replicate, slice_get, slice_set, slice_index_or, Some, All}
+use Rattle.std.specs.Prelude.{◌≡◌, ◌<◌, ◌≤◌, ℕ, ◌+◌, ◌-◌, min, List, [], ◌∷◌, ◌++◌, length, map, take, drop, replicate, slice_get, slice_set, slice_index_or, Some, All}
 use Rattle.vt_cells.specs.declared.cell.Cell.{Cell}
 
 -- the number of rows and of columns, and the rows from top to bottom, each as its cells from left to right
@@ -24,6 +24,21 @@ pub record IsFull (s : GridView) : Type 0 where
 -- the cell in row y and column x is c
 abbrev pub HasCellAt : GridView → ℕ → ℕ → Cell → Type 0
 HasCellAt s y x c = slice_get (row_at s y) x ≡ Some c
+
+-- the grid has a cell in row y and column x
+pub record HasPlace (s : GridView) (y x : ℕ) : Type 0 where
+  pub row : y < s.rows
+  pub column : x < s.cols
+
+-- the grid has so many cells in row y from column x on
+pub record HasRun (s : GridView) (y x count : ℕ) : Type 0 where
+  pub row : y < s.rows
+  pub columns : x + count ≤ s.cols
+
+-- the grid has the rows top to bottom, both included
+pub record HasRows (s : GridView) (top bottom : ℕ) : Type 0 where
+  pub order : top ≤ bottom
+  pub row : bottom < s.rows
 
 -- every cell is c
 abbrev pub filled_grid : ℕ → ℕ → Cell → GridView

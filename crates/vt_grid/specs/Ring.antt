@@ -4,7 +4,7 @@ use Rattle.vt_grid.specs.StoredRow.{IsNarrowLine, StoredRow, blank_row}
 use Rattle.vt_grid.specs.Store.{no_row}
 use Rattle.vt_cells.specs.declared.cell.Cell.{Cell}
 
--- a row as it is kept: the number of its cells, and the cells that are stored
+-- a row as it is kept: how many cells it has room for, and the cells that are stored
 pub record RowSlot : Type 0 where
   pub room : ℕ
   pub line : StoredRow

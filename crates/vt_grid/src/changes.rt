@@ -4,7 +4,6 @@ ghost use Rattle.std.specs.Prelude.{◌≡◌, ◌<◌, ◌↔◌, IsTrue};
 ghost use Rattle.vt_grid.specs.Grid.{row_at};
 
 use crate::Grid;
-use crate::row_cells::RowCells;
 
 impl Grid {
     /// Whether row `y` has the same cells in both grids.
@@ -13,7 +12,7 @@ impl Grid {
         requires other_row { y < other.now.rows }
         ensures { IsTrue result ↔ (row_at self.now y ≡ row_at other.now y) }
     {
-        are_same(self.row(y), other.row(y))
+        self.row(y).is_same(other.row(y))
     }
 
     /// Becomes the other grid, which has its size.
@@ -28,19 +27,4 @@ impl Grid {
             self.copy_row(y, other, y, size.cols);
         }
     }
-}
-
-// Whether both have the same cells left.
-fn are_same(first: RowCells<'_>, second: RowCells<'_>) -> bool
-    ensures { IsTrue result ↔ (first ≡ second) }
-{
-    let mut first = first;
-    let mut second = second;
-    while let Some(cell) = first.next() {
-        match second.next() {
-            Some(other) if other == cell => {}
-            _ => return false,
-        }
-    }
-    second.next().is_none()
 }

@@ -1,5 +1,5 @@
 ghost use Rattle.std.specs.Prelude.{◌≡◌, ◌<◌, ◌≤◌, ◌+◌, take, IfOk};
-ghost use Rattle.vt_grid.specs.Grid.{HasCellAt, IsFull, with_deleted, with_erased, filled_grid, with_inserted, resized_grid, row_at, scrolled_down, scrolled_up, with_cell, with_run};
+ghost use Rattle.vt_grid.specs.Grid.{HasCellAt, HasPlace, HasRows, HasRun, IsFull, with_deleted, with_erased, filled_grid, with_inserted, resized_grid, row_at, scrolled_down, scrolled_up, with_cell, with_run};
 ghost use Rattle.vt_grid.specs.Halves.{split_wide_rows};
 ghost use Rattle.vt_grid.specs.Store.{scroll_steps};
 
@@ -58,8 +58,7 @@ impl Grid {
 
     /// The cell in row `y` and column `x`.
     pub fn at(&self, y: u8, x: u8) -> Cell
-        requires row { y < self.now.rows }
-        requires column { x < self.now.cols }
+        requires { HasPlace self.now y x }
         ensures { HasCellAt self.now y x result }
     {
         self.store.stays_fit();
@@ -77,8 +76,7 @@ impl Grid {
 
     /// Sets one cell.
     pub fn put(&mut self, y: u8, x: u8, c: Cell)
-        requires row { y < self.old.rows }
-        requires column { x < self.old.cols }
+        requires { HasPlace self.old y x }
         ensures { self.new ≡ with_cell self.old y x c }
     {
         self.store.stays_fit();
@@ -96,8 +94,7 @@ impl Grid {
     /// Moves the rows `top` to `bottom`, both included, up by `n`, or by their number if `n` is more. The
     /// new rows are filled with `c`.
     pub fn scroll_up(&mut self, top: u8, bottom: u8, n: u16, c: Cell)
-        requires order { top ≤ bottom }
-        requires row { bottom < self.old.rows }
+        requires { HasRows self.old top bottom }
         ensures { self.new ≡ scrolled_up self.old top bottom n c }
     {
         scroll_up_alone::<Brand>(self, top, bottom, n, c, Blank::new(1));
@@ -113,8 +110,7 @@ impl Grid {
         c: Cell,
         steps: &mut Steps<L>,
     )
-        requires order { top ≤ bottom }
-        requires row { bottom < self.old.rows }
+        requires { HasRows self.old top bottom }
         ensures grid { self.new ≡ scrolled_up self.old top bottom n c }
         ensures steps { steps.new ≤ steps.old + scroll_steps self.old.rows top bottom n }
     {
@@ -123,8 +119,7 @@ impl Grid {
 
     /// [`Grid::scroll_up`] in the other direction.
     pub fn scroll_down(&mut self, top: u8, bottom: u8, n: u16, c: Cell)
-        requires order { top ≤ bottom }
-        requires row { bottom < self.old.rows }
+        requires { HasRows self.old top bottom }
         ensures { self.new ≡ scrolled_down self.old top bottom n c }
     {
         self.store.scroll_down(top, bottom, n, c);
@@ -132,9 +127,8 @@ impl Grid {
 
     /// Makes the cells from column `x0` to `x1`, both included, `c`.
     pub fn erase(&mut self, y: u8, x0: u8, x1: u8, c: Cell)
-        requires row { y < self.old.rows }
         requires order { x0 ≤ x1 }
-        requires column { x1 < self.old.cols }
+        requires place { HasPlace self.old y x1 }
         ensures { self.new ≡ with_erased self.old y x0 x1 c }
     {
         self.store.erase(y, x0, x1, c);
@@ -143,8 +137,7 @@ impl Grid {
     /// Inserts `n` cells `c` at column `x`. The rest of the row moves right, and the cells that pass the
     /// end are lost.
     pub fn insert(&mut self, y: u8, x: u8, n: u16, c: Cell)
-        requires row { y < self.old.rows }
-        requires column { x < self.old.cols }
+        requires { HasPlace self.old y x }
         ensures { self.new ≡ with_inserted self.old y x n c }
     {
         self.store.insert(y, x, n, c);
@@ -152,8 +145,7 @@ impl Grid {
 
     /// Deletes `n` cells at column `x`. The rest of the row moves left, and its end is filled with `c`.
     pub fn delete(&mut self, y: u8, x: u8, n: u16, c: Cell)
-        requires row { y < self.old.rows }
-        requires column { x < self.old.cols }
+        requires { HasPlace self.old y x }
         ensures { self.new ≡ with_deleted self.old y x n c }
     {
         self.store.delete(y, x, n, c);
@@ -187,10 +179,8 @@ impl Grid {
 impl Grid {
     // Copies the first `cols` cells of the old row `from` to row `y`.
     pub(crate) fn copy_row(&mut self, y: u8, old: &Grid, from: u8, cols: u8)
-        requires row { y < self.old.rows }
-        requires columns { cols ≤ self.old.cols }
-        requires from { from < old.now.rows }
-        requires old_columns { cols ≤ old.now.cols }
+        requires run { HasRun self.old y 0 cols }
+        requires old_run { HasRun old.now from 0 cols }
         ensures { self.new ≡ with_run self.old y 0 (take cols (row_at old.now from)) }
     {
         self.store.copy_row(y, &old.store, from, cols);
@@ -203,8 +193,7 @@ fn scroll_up_alone<L: Ledger>(grid: &mut Grid, top: u8, bottom: u8, n: u16, c: C
     requires name { blank.name ≡ L.name }
     requires parts { blank.parts ≡ L.parts }
     requires some { 0 < blank.parts }
-    requires order { top ≤ bottom }
-    requires row { bottom < grid.old.rows }
+    requires region { HasRows grid.old top bottom }
     ensures { grid.new ≡ scrolled_up grid.old top bottom n c }
 {
     let mut steps = Steps::<L>::open(blank);

@@ -2,7 +2,7 @@
 ghost use Rattle.std.specs.List.{list_all};
 ghost use Rattle.std.specs.Prelude.{◌≡◌, ◌<◌, ◌≤◌, ◌+◌, ◌==◌, Some, false, not, true, length, slice_get};
 ghost use Rattle.vt_cells.specs.Width.{half, is_plain};
-ghost use Rattle.vt_grid.specs.Grid.{cells_of_codes, row_at};
+ghost use Rattle.vt_grid.specs.Grid.{HasPlace, HasRun, cells_of_codes, row_at};
 ghost use Rattle.vt_grid.specs.Halves.{with_cells_at, split_wide, split_wide_at, split_wide_between, space_in_colours};
 
 use crate::Grid;
@@ -28,8 +28,7 @@ impl Grid {
     /// Sets the cells from column `x` on, one for each byte. A character that is covered in part is split.
     #[inline(always)]
     pub fn draw_bytes(&mut self, y: u8, x: u8, bytes: &[u8], attr: u8)
-        requires row { y < self.old.rows }
-        requires columns { x + length bytes.now ≤ self.old.cols }
+        requires { HasRun self.old y x (length bytes.now) }
         ensures { self.new ≡ with_cells_at self.old y x (cells_of_codes bytes.now attr) }
     {
         self.stays_full();
@@ -42,8 +41,7 @@ impl Grid {
     #[inline(always)]
     pub fn draw_plain(&mut self, y: u8, x: u8, codes: &[u32], attr: u8)
         requires plain { list_all is_plain codes.now ≡ true }
-        requires row { y < self.old.rows }
-        requires columns { x + length codes.now ≤ self.old.cols }
+        requires run { HasRun self.old y x (length codes.now) }
         ensures { self.new ≡ with_cells_at self.old y x (cells_of_codes codes.now attr) }
     {
         self.stays_full();
@@ -54,8 +52,7 @@ impl Grid {
     /// Sets the cells from column `x` on, one for each code. A character that is covered in part is split.
     #[inline(always)]
     pub fn draw_codes(&mut self, y: u8, x: u8, codes: &[u32], attr: u8)
-        requires row { y < self.old.rows }
-        requires columns { x + length codes.now ≤ self.old.cols }
+        requires { HasRun self.old y x (length codes.now) }
         ensures { self.new ≡ with_cells_at self.old y x (cells_of_codes codes.now attr) }
     {
         self.stays_full();
@@ -108,8 +105,7 @@ impl Grid {
 
     // The cell in row `y` and column `x`, if the row is split before a later column.
     pub(crate) fn at_parted(&self, y: u8, x: u8, border: u8) -> Cell
-        requires row { y < self.now.rows }
-        requires column { x < self.now.cols }
+        requires place { HasPlace self.now y x }
         requires before { x < border }
         ensures { slice_get (split_wide border (row_at self.now y)) x ≡ Some result }
     {
@@ -131,9 +127,8 @@ impl Grid {
     // Makes the cells on both sides of the border spaces, if the right one is a half.
     #[inline(never)]
     fn space(&mut self, y: u8, x: u8)
-        requires row { y < self.old.rows }
+        requires place { HasPlace self.old y x }
         requires some { 0 < x }
-        requires column { x < self.old.cols }
         ensures { self.new ≡ split_wide_at self.old y x }
     {
         self.stays_full();

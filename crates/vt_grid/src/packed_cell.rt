@@ -1,4 +1,4 @@
-ghost use Rattle.std.specs.Prelude.{◌≡◌};
+ghost use Rattle.std.specs.Prelude.{◌≡◌, ◌↔◌, IsTrue};
 
 use std::marker::Model;
 use vt_cells::Cell;
@@ -40,5 +40,13 @@ impl PackedCell {
             code: self.code,
             attr: self.attr as u8,
         }
+    }
+
+    // Without a branch, so that many cells are compared at once.
+    #[inline(always)]
+    pub(crate) fn is_same(self, other: PackedCell) -> bool
+        ensures { IsTrue result ↔ (self ≡ other) }
+    {
+        (self.code == other.code) & (self.attr == other.attr)
     }
 }

@@ -1,4 +1,4 @@
-ghost use Rattle.std.specs.Prelude.{◌≡◌, ◌++◌, replicate};
+ghost use Rattle.std.specs.Prelude.{◌≡◌, ◌++◌, ◌↔◌, IsTrue, length, replicate};
 ghost use Rattle.std.specs.Iterator.{YieldsFirst, item_count};
 
 use crate::packed_cell::PackedCell;
@@ -31,6 +31,20 @@ impl<'a> RowCells<'a> {
     {
         RowCells { stored, rest, past }
     }
+
+    /// Whether both have the same cells left. Of rows that store as many cells and have the same blank end,
+    /// only the stored cells are compared.
+    #[tactic(auto, using(std::proofs::lemmas::List::append_cancel_right))]
+    pub(crate) fn is_same(self, other: RowCells<'_>) -> bool
+        ensures { IsTrue result ↔ (self ≡ other) }
+    {
+        let as_many = (self.past == other.past) & (self.stored.len() == other.stored.len());
+        if as_many & self.rest.is_same(other.rest) {
+            are_same(self.stored, other.stored)
+        } else {
+            has_same_cells(self, other)
+        }
+    }
 }
 
 impl<'a> Iterator for RowCells<'a> {
@@ -55,3 +69,30 @@ impl<'a> Iterator for RowCells<'a> {
 }
 
 impl<'a> FusedIterator for RowCells<'a> {}
+
+// Whether both have the same cells.
+fn are_same(first: &[PackedCell], second: &[PackedCell]) -> bool
+    requires { length first.now ≡ length second.now }
+    ensures { IsTrue result ↔ (first.now ≡ second.now) }
+{
+    let mut same = true;
+    for i in 0..first.len() {
+        same = same & first[i].is_same(second[i]);
+    }
+    same
+}
+
+// The same, a cell at a time.
+fn has_same_cells(first: RowCells<'_>, second: RowCells<'_>) -> bool
+    ensures { IsTrue result ↔ (first ≡ second) }
+{
+    let mut first = first;
+    let mut second = second;
+    while let Some(cell) = first.next() {
+        match second.next() {
+            Some(other) if other == cell => {}
+            _ => return false,
+        }
+    }
+    second.next().is_none()
+}

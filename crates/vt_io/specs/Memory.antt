@@ -1,6 +1,7 @@
 -- The source and the sink in memory, whose bytes and faults are known.
-use Rattle.std.specs.Prelude.{◌≡◌, ◌≢◌, ℕ, ◌<◌, ◌-◌, ◌⊎◌, ◌++◌, min, List, length, take, drop, slice_index, Result, MatchResult}
+use Rattle.std.specs.Prelude.{◌≡◌, ◌≢◌, ℕ, ◌<◌, ◌-◌, ◌⊎◌, ◌++◌, min, List, length, take, drop, slice_index, Result, MatchResult, Some}
 use Rattle.vt_io.specs.Faults.{one_more}
+use Rattle.vt_io.specs.Stream.{Stream}
 
 -- the bytes left, which of the next calls fail (each by a byte that isn't 0), and the count of
 -- faults
@@ -15,6 +16,13 @@ pub record SinkState : Type 0 where
   pub room : ℕ
   pub fails : List ℕ
   pub faults : ℕ
+
+-- their bytes and faults
+abbrev pub source_stream : SourceState → Stream
+source_stream s = record { bytes = Some s.left; faults = s.faults }
+
+abbrev pub sink_stream : SinkState → Stream
+sink_stream s = record { bytes = Some s.held; faults = s.faults }
 
 -- the next call is one of those that fail
 abbrev pub IsNamed : List ℕ → Type 0

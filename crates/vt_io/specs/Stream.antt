@@ -1,11 +1,20 @@
 -- Sources and sinks in contracts: their bytes, their faults, and the bounds of a read and a write.
-use Rattle.std.specs.Prelude.{◌≡◌, ℕ, ◌<◌, ◌≤◌, List, length, take, drop, Option, Result, IfOk, MatchResult}
-use Rattle.std.specs.Io.KnownBytes.{Appends}
+use Rattle.std.specs.Prelude.{◌≡◌, ℕ, ◌<◌, ◌≤◌, List, length, take, drop, Option, Some, None, Result, IfOk, MatchResult, OnOk}
+use Rattle.std.specs.Io.{ReadsAtMost, WritesAtMost}
+use Rattle.std.specs.Io.KnownBytes.{Appends, ReadConsumes, WriteAppends}
+use Rattle.vt_io.specs.Faults.{HasCause}
 
 -- the bytes that are left in a source or held by a sink, if they are known, and the count of faults
 pub record Stream : Type 0 where
   pub bytes : Option (List ℕ)
   pub faults : ℕ
+
+-- a source that never fails and has these bytes left, and a stream whose bytes aren't known
+abbrev pub faultless : List ℕ → Stream
+faultless left = record { bytes = Some left; faults = 0 }
+
+abbrev pub unknown_bytes : ℕ → Stream
+unknown_bytes faults = record { bytes = None; faults = faults }
 
 -- the bytes held have grown by a prefix of the text
 abbrev pub GrowsByPrefix : Option (List ℕ) → Option (List ℕ) → List ℕ → Type 0
@@ -20,3 +29,18 @@ FillsFront result before after = MatchResult result
 -- a write of a piece that isn't empty takes at least one byte of it
 abbrev pub MovesOn : {E : Type 0} → Result ℕ E → List ℕ → Type 0
 MovesOn result piece = 0 < length piece → IfOk result (λ n. 1 ≤ n)
+
+-- a read into a buffer, which was `before` and is `after`; one that doesn't fail leaves the count of faults
+pub record IsRead {E : Type 0} (old new : Stream) (before after : List ℕ) (result : Result ℕ E) : Type 0 where
+  pub bound : ReadsAtMost result after
+  pub bytes : ReadConsumes old.bytes new.bytes result after
+  pub buffer : FillsFront result before after
+  pub cause : HasCause old.faults new.faults result
+  pub kept : OnOk result (new.faults ≡ old.faults)
+
+-- a write of a piece
+pub record IsWrite {E : Type 0} (old new : Stream) (piece : List ℕ) (result : Result ℕ E) : Type 0 where
+  pub bound : WritesAtMost result piece
+  pub bytes : WriteAppends old.bytes new.bytes result piece
+  pub moves : MovesOn result piece
+  pub cause : HasCause old.faults new.faults result

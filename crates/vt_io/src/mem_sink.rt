@@ -1,9 +1,6 @@
-ghost use Rattle.std.specs.Prelude.{Some, ◌≡◌};
-ghost use Rattle.std.specs.Io.{WritesAtMost};
-ghost use Rattle.std.specs.Io.KnownBytes.{WriteAppends};
-ghost use Rattle.vt_io.specs.Faults.{HasCause};
-ghost use Rattle.vt_io.specs.Memory.{Writes};
-ghost use Rattle.vt_io.specs.Stream.{MovesOn};
+ghost use Rattle.std.specs.Prelude.{◌≡◌};
+ghost use Rattle.vt_io.specs.Memory.{Writes, sink_stream};
+ghost use Rattle.vt_io.specs.Stream.{IsWrite};
 
 use crate::cursor::Cursor;
 use crate::{Failed, Sink};
@@ -57,13 +54,10 @@ impl MemSink {
 }
 
 impl Sink for MemSink {
-    ghost stream = { λ s. record { bytes = Some s.held; faults = s.faults } };
+    ghost stream = { sink_stream };
 
     fn write(&mut self, buf: &[u8]) -> Result<usize, Failed>
-        ensures bound { WritesAtMost result buf.now }
-        ensures bytes { WriteAppends (Some self.old.held) (Some self.new.held) result buf.now }
-        ensures moves { MovesOn result buf.now }
-        ensures cause { HasCause self.old.faults self.new.faults result }
+        ensures write { IsWrite (sink_stream self.old) (sink_stream self.new) buf.now result }
         ensures exact { Writes self.old self.new buf.now result }
     {
         if self.fails.take_flag() {

@@ -1,9 +1,6 @@
-ghost use Rattle.std.specs.Prelude.{Some, ◌≡◌, OnOk};
-ghost use Rattle.std.specs.Io.{ReadsAtMost};
-ghost use Rattle.std.specs.Io.KnownBytes.{ReadConsumes};
-ghost use Rattle.vt_io.specs.Faults.{HasCause};
-ghost use Rattle.vt_io.specs.Memory.{Reads};
-ghost use Rattle.vt_io.specs.Stream.{FillsFront};
+ghost use Rattle.std.specs.Prelude.{◌≡◌};
+ghost use Rattle.vt_io.specs.Memory.{Reads, source_stream};
+ghost use Rattle.vt_io.specs.Stream.{IsRead};
 
 use crate::cursor::Cursor;
 use crate::{Failed, Source};
@@ -42,14 +39,10 @@ impl MemSource {
 }
 
 impl Source for MemSource {
-    ghost stream = { λ s. record { bytes = Some s.left; faults = s.faults } };
+    ghost stream = { source_stream };
 
     fn read(&mut self, buf: &mut [u8]) -> Result<usize, Failed>
-        ensures bound { ReadsAtMost result buf.new }
-        ensures bytes { ReadConsumes (Some self.old.left) (Some self.new.left) result buf.new }
-        ensures buffer { FillsFront result buf.old buf.new }
-        ensures cause { HasCause self.old.faults self.new.faults result }
-        ensures kept { OnOk result (self.new.faults ≡ self.old.faults) }
+        ensures read { IsRead (source_stream self.old) (source_stream self.new) buf.old buf.new result }
         ensures exact { Reads self.old self.new buf.old buf.new result }
     {
         if self.fails.take_flag() {

@@ -1,8 +1,5 @@
-ghost use Rattle.std.specs.Prelude.{Some, ℕ, ◌≡◌, ◌++◌, length, take, drop, min, IsOkAnd, OnOk};
-ghost use Rattle.std.specs.Io.{ReadsAtMost};
-ghost use Rattle.std.specs.Io.KnownBytes.{ReadConsumes};
-ghost use Rattle.vt_io.specs.Faults.{HasCause};
-ghost use Rattle.vt_io.specs.Stream.{FillsFront};
+ghost use Rattle.std.specs.Prelude.{◌≡◌, ◌++◌, length, take, drop, min, IsOkAnd};
+ghost use Rattle.vt_io.specs.Stream.{IsRead, faultless};
 
 use crate::cursor::Cursor;
 use crate::{Failed, Source};
@@ -35,14 +32,10 @@ impl NoFaultSource {
 }
 
 impl Source for NoFaultSource {
-    ghost stream = { λ left. record { bytes = Some left; faults = 0 } };
+    ghost stream = { faultless };
 
     fn read(&mut self, buf: &mut [u8]) -> Result<usize, Failed>
-        ensures bound { ReadsAtMost result buf.new }
-        ensures bytes { ReadConsumes (Some self.old) (Some self.new) result buf.new }
-        ensures buffer { FillsFront result buf.old buf.new }
-        ensures cause { HasCause 0 0 result }
-        ensures kept { OnOk result (◌≡◌ {A = ℕ} 0 0) }
+        ensures read { IsRead (faultless self.old) (faultless self.new) buf.old buf.new result }
         ensures exact { IsOkAnd result (λ n. (n ≡ min (length buf.old) (length self.old))
             × (buf.new ≡ take n self.old ++ drop n buf.old)
             × (self.new ≡ drop n self.old)) }

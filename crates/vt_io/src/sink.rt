@@ -1,7 +1,4 @@
-ghost use Rattle.std.specs.Io.{WritesAtMost};
-ghost use Rattle.std.specs.Io.KnownBytes.{WriteAppends};
-ghost use Rattle.vt_io.specs.Faults.{HasCause};
-ghost use Rattle.vt_io.specs.Stream.{MovesOn, Stream};
+ghost use Rattle.vt_io.specs.Stream.{IsWrite, Stream};
 
 use crate::Failed;
 
@@ -13,8 +10,5 @@ pub trait Sink {
     /// Takes bytes from the beginning of `buf` and returns their number, which is at least 1 if `buf`
     /// isn't empty. A write that fails takes none.
     fn write(&mut self, buf: &[u8]) -> Result<usize, Failed>
-        ensures bound { WritesAtMost result buf.now }
-        ensures bytes { WriteAppends (stream self.old).bytes (stream self.new).bytes result buf.now }
-        ensures moves { MovesOn result buf.now }
-        ensures cause { HasCause (stream self.old).faults (stream self.new).faults result };
+        ensures { IsWrite (stream self.old) (stream self.new) buf.now result };
 }

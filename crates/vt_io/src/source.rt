@@ -1,8 +1,4 @@
-ghost use Rattle.std.specs.Prelude.{◌≡◌, OnOk};
-ghost use Rattle.std.specs.Io.{ReadsAtMost};
-ghost use Rattle.std.specs.Io.KnownBytes.{ReadConsumes};
-ghost use Rattle.vt_io.specs.Faults.{HasCause};
-ghost use Rattle.vt_io.specs.Stream.{FillsFront, Stream};
+ghost use Rattle.vt_io.specs.Stream.{IsRead, Stream};
 
 use crate::Failed;
 
@@ -15,9 +11,5 @@ pub trait Source {
     /// input if `buf` isn't empty. A read that fails takes none of the bytes that are left. A read
     /// that doesn't fail leaves the count of faults unchanged.
     fn read(&mut self, buf: &mut [u8]) -> Result<usize, Failed>
-        ensures bound { ReadsAtMost result buf.new }
-        ensures bytes { ReadConsumes (stream self.old).bytes (stream self.new).bytes result buf.new }
-        ensures buffer { FillsFront result buf.old buf.new }
-        ensures cause { HasCause (stream self.old).faults (stream self.new).faults result }
-        ensures kept { OnOk result ((stream self.new).faults ≡ (stream self.old).faults) };
+        ensures { IsRead (stream self.old) (stream self.new) buf.old buf.new result };
 }

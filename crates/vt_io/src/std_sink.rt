@@ -1,8 +1,6 @@
-ghost use Rattle.std.specs.Prelude.{None, ◌≡◌, MatchResult};
-ghost use Rattle.std.specs.Io.{WritesAtMost};
-ghost use Rattle.std.specs.Io.KnownBytes.{WriteAppends};
-ghost use Rattle.vt_io.specs.Faults.{HasCause, one_more};
-ghost use Rattle.vt_io.specs.Stream.{MovesOn};
+ghost use Rattle.std.specs.Prelude.{◌≡◌, MatchResult};
+ghost use Rattle.vt_io.specs.Faults.{one_more};
+ghost use Rattle.vt_io.specs.Stream.{IsWrite, unknown_bytes};
 
 use crate::retries::RETRIES;
 use crate::{Failed, Sink};
@@ -40,13 +38,10 @@ impl<W> StdSink<W> {
 }
 
 impl<W: Write> Sink for StdSink<W> {
-    ghost stream = { λ count. record { bytes = None; faults = count } };
+    ghost stream = { unknown_bytes };
 
     fn write(&mut self, buf: &[u8]) -> Result<usize, Failed>
-        ensures bound { WritesAtMost result buf.now }
-        ensures bytes { WriteAppends None None result buf.now }
-        ensures moves { MovesOn result buf.now }
-        ensures cause { HasCause self.old self.new result }
+        ensures write { IsWrite (unknown_bytes self.old) (unknown_bytes self.new) buf.now result }
         ensures count { MatchResult result
             (λ _. self.new ≡ self.old)
             (λ _. self.new ≡ one_more self.old) }

@@ -1,8 +1,6 @@
-ghost use Rattle.std.specs.Prelude.{None, ◌≡◌, ◌≤◌, IfSome, MatchResult, OnOk, length};
-ghost use Rattle.std.specs.Io.{ReadsAtMost};
-ghost use Rattle.std.specs.Io.KnownBytes.{ReadConsumes};
-ghost use Rattle.vt_io.specs.Faults.{HasCause, one_more};
-ghost use Rattle.vt_io.specs.Stream.{FillsFront};
+ghost use Rattle.std.specs.Prelude.{◌≡◌, ◌≤◌, IfSome, MatchResult, length};
+ghost use Rattle.vt_io.specs.Faults.{one_more};
+ghost use Rattle.vt_io.specs.Stream.{IsRead, unknown_bytes};
 
 use crate::cursor::copy_bytes;
 use crate::retries::RETRIES;
@@ -47,14 +45,10 @@ impl<R> StdSource<R> {
 }
 
 impl<R: Read> Source for StdSource<R> {
-    ghost stream = { λ count. record { bytes = None; faults = count } };
+    ghost stream = { unknown_bytes };
 
     fn read(&mut self, buf: &mut [u8]) -> Result<usize, Failed>
-        ensures bound { ReadsAtMost result buf.new }
-        ensures bytes { ReadConsumes None None result buf.new }
-        ensures buffer { FillsFront result buf.old buf.new }
-        ensures cause { HasCause self.old self.new result }
-        ensures kept { OnOk result (self.new ≡ self.old) }
+        ensures read { IsRead (unknown_bytes self.old) (unknown_bytes self.new) buf.old buf.new result }
         ensures count { MatchResult result
             (λ _. self.new ≡ self.old)
             (λ _. self.new ≡ one_more self.old) }

@@ -1,14 +1,8 @@
 -- A word is one caller's.
-use Rattle.std.proofs.Common.{◌≡◌, ◌≢◌, true≢false, ℕ, ◌+◌, ◌%◌, ◌<◌, ◌≤◌, ◌^◌, ◌⊎◌, ⊎_elim, Bool, true, false, ◌&&◌, ◌||◌, eqb, ltb, cond, Option, Some, None, List, [], ◌∷◌, ◌++◌, codes, decimal, refl, sym, ap, ◌∙◌, arith}
-use Rattle.std.specs.List.{list_all}
-use Rattle.std.specs.Prelude.{IfNone}
-use Rattle.vt_base.specs.Limits.{callers}
-use Rattle.vt_base.specs.Range.{in_range}
-use Rattle.std.proofs.lemmas.Bool.{cases_lt, le-ltb, lt-ltb}
-use Rattle.std.proofs.lemmas.Fmt.{decimal_by_steps, decimal_injective}
-use Rattle.std.proofs.lemmas.List.Folds.{list_all-append}
+use Rattle.std.proofs.Common.{◌≡◌, ◌≢◌, ℕ, ◌<◌, ◌≤◌, ◌^◌, ◌⊎◌, ⊎_elim, Bool, true, false, eqb, cond, List, ◌++◌, codes, decimal, refl, sym, ◌∙◌, arith}
+use Rattle.std.proofs.lemmas.Fmt.{decimal_injective}
 use Rattle.vt_journal.specs.Callers.{HasWord, caller_word, is_process, keyboard_number}
-use Rattle.vt_journal.proofs.Clear.{is_clear, is_clear-decimal}
+use Rattle.vt_journal.proofs.Clear.{is_clear, is_clear_high, is_high, is_high-decimal}
 
 small : (version n : ℕ) → HasWord version n → n < 2 ^ 64
 small version n fit = omega (arith, fit.0)
@@ -65,47 +59,7 @@ no_process n p digits zero is process same =
     decimal_injective p n (omega (arith, within.1)) (omega (arith, zero)) (same ∙ sym is) in
     omega (arith, within.0, both, zero)
 
--- past the last caller there is none
-past : (high n : ℕ) → None ≡ in_range 0 high n → high < n
-past high n is =
-    ⊎_elim (λ after. after)
-    (λ within.
-    absurd (by_test (ltb n 0) (ltb high n) (le-ltb n 0 (omega arith)) (le-ltb high n within) is))
-    (cases_lt high n)
-  where
-    by_test : (a b : Bool) → a ≡ false → b ≡ false → None ≡ cond (a || b) None (Some n) → ⊥
-    by_test true b low small none = true≢false low
-    by_test false true low small none = true≢false small
-    by_test false false low small none = cc
-
-pub no_keyboard : (high n : ℕ) (digits : List ℕ) (r : Option ℕ) → r ≡ in_range 0 high (64 + n)
-    → callers ≤ high + 1 → n ≢ 0 → n ≤ 3 → decimal n ≡ digits
-    → IfNone r ((p : ℕ) → p < callers → is_process p ≡ false → decimal (keyboard_number p) ≢ digits)
-no_keyboard high n digits (Some q) is all some few same = tt
-no_keyboard high n digits None is all some few same =
-    λ p within other word.
-    let numbers : keyboard_number p ≡ n =
-    decimal_injective (keyboard_number p) n (omega (arith, within)) (omega (arith, few)) (word ∙ sym same) in
-    let above : high < 64 + n = past high (64 + n) is in
-    ⊎_elim
-    (λ zero. some (sym numbers ∙ ap keyboard_number zero))
-    (λ more. omega (arith, numbers, above, all, within, more))
-    (keyboards p other)
-
 -- the bytes of a caller's word are digits or letters, and no last line begins with one
-abbrev pub is_high : List ℕ → Bool
-is_high word = list_all (λ b. ltb 0x2F b) word
-
-is_high-decimal : (n : ℕ) → n < 2 ^ 64 → is_high (decimal n) ≡ true
-is_high-decimal =
-    decimal_by_steps (λ _ digits. is_high digits ≡ true) (λ n below. digit n)
-    (λ n digits above others.
-    list_all-append (λ b. ltb 0x2F b) digits ((48 + n % 10) ∷ [])
-    ∙ (λ j. others j && digit (n % 10) j))
-  where
-    digit : (n : ℕ) → is_high ((48 + n) ∷ []) ≡ true
-    digit n = ap (λ b. b && true) (lt-ltb 0x2F (48 + n) (omega arith))
-
 pub is_high_caller : (version n : ℕ) → HasWord version n → is_high (caller_word version n) ≡ true
 is_high_caller version n fit = by_test (eqb version 1) (is_process n)
   where
@@ -119,12 +73,4 @@ is_high_caller version n fit = by_test (eqb version 1) (is_process n)
 
 -- it is clear of blanks
 pub is_clear_caller : (version n : ℕ) → HasWord version n → is_clear (caller_word version n) ≡ true
-is_clear_caller version n fit = by_test (eqb version 1) (is_process n)
-  where
-    by_test : (old p : Bool)
-        → is_clear
-        (cond old (decimal n) (cond p (codes "p" ++ decimal n) (codes "k" ++ decimal (keyboard_number n))))
-        ≡ true
-    by_test true p = is_clear-decimal n (small version n fit)
-    by_test false true = is_clear-decimal n (small version n fit)
-    by_test false false = is_clear-decimal (keyboard_number n) (keyboard_small version n fit)
+is_clear_caller version n fit = is_clear_high (caller_word version n) (is_high_caller version n fit)

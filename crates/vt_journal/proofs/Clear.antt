@@ -55,23 +55,30 @@ line_of_words (word ∷ words) is =
     (All-append (λ b. b ≢ 0x0A) word (blank_before_each words) (line_of_word word both.0)
     (line_of_words words both.1))
 
+-- the words of a line: there is one, and each is clear
+abbrev pub is_clear_line : List (List ℕ) → Bool
+is_clear_line [] = false
+is_clear_line (word ∷ words) = are_clear (word ∷ words)
+
 -- spelled words are a line
-pub line_joined_by_blanks : (word : List ℕ) (words : List (List ℕ)) → is_clear word ≡ true
-    → are_clear words ≡ true → IsLine (joined_by_blanks (word ∷ words))
-line_joined_by_blanks word words first others =
+pub line_joined_by_blanks : (words : List (List ℕ)) → is_clear_line words ≡ true → IsLine (joined_by_blanks words)
+line_joined_by_blanks [] clear = cc
+line_joined_by_blanks (word ∷ words) clear =
+    let both = and_parts (is_clear word) (are_clear words) clear in
     rw (joined_by_blanks-cons word words)
-    (All-append (λ b. b ≢ 0x0A) word (blank_before_each words) (line_of_word word first)
-    (line_of_words words others))
+    (All-append (λ b. b ≢ 0x0A) word (blank_before_each words) (line_of_word word both.0)
+    (line_of_words words both.1))
 
 -- words are found again in their text
-pub words_of_text-joined_by_blanks : (word : List ℕ) (words : List (List ℕ)) → is_clear word ≡ true
-    → are_clear words ≡ true → words_of_text (joined_by_blanks (word ∷ words)) ≡ word ∷ words
-words_of_text-joined_by_blanks word [] first others =
-    slice_split_none (λ b. eqb b 0x20) word (no_blank word first)
-words_of_text-joined_by_blanks word (next ∷ words) first others =
-    let both = and_parts (is_clear next) (are_clear words) others in
-    slice_split_at (λ b. eqb b 0x20) word 0x20 (joined_by_blanks (next ∷ words)) (no_blank word first) refl
-    ∙ ap (λ rest. word ∷ rest) (words_of_text-joined_by_blanks next words both.0 both.1)
+pub words_of_text-joined_by_blanks : (words : List (List ℕ)) → is_clear_line words ≡ true
+    → words_of_text (joined_by_blanks words) ≡ words
+words_of_text-joined_by_blanks [] clear = cc
+words_of_text-joined_by_blanks (word ∷ []) clear =
+    slice_split_none (λ b. eqb b 0x20) word (no_blank word (and_parts (is_clear word) true clear).0)
+words_of_text-joined_by_blanks (word ∷ next ∷ words) clear =
+    let both = and_parts (is_clear word) (are_clear (next ∷ words)) clear in
+    slice_split_at (λ b. eqb b 0x20) word 0x20 (joined_by_blanks (next ∷ words)) (no_blank word both.0) refl
+    ∙ ap (λ rest. word ∷ rest) (words_of_text-joined_by_blanks (next ∷ words) both.1)
 
 -- words after words
 pub are_clear-append : (u v : List (List ℕ)) → are_clear u ≡ true → are_clear v ≡ true
@@ -79,20 +86,34 @@ pub are_clear-append : (u v : List (List ℕ)) → are_clear u ≡ true → are_
 are_clear-append u v first others = list_all-append is_clear u v ∙ (λ j. first j && others j)
 
 -- names are clear
-pub is_clear_name : (k : Kind) → is_clear (name_of k) ≡ true
+is_clear_name : (k : Kind) → is_clear (name_of k) ≡ true
 is_clear_name calls.Exit = refl
 is_clear_name k = refl
 
+-- each byte is a digit or above one
+abbrev pub is_high : List ℕ → Bool
+is_high word = list_all (λ b. ltb 0x2F b) word
+
+pub is_clear_high : (word : List ℕ) → is_high word ≡ true → is_clear word ≡ true
+is_clear_high [] high = refl
+is_clear_high (b ∷ word) high =
+    let both = and_parts (ltb 0x2F b) (is_high word) high in
+    let above : ltb 0x20 b ≡ true = lt-ltb 0x20 b (omega (arith, ltb-true 0x2F b both.0)) in
+    λ j. above j && is_clear_high word both.1 j
+
+pub is_high-decimal : (n : ℕ) → n < 2 ^ 64 → is_high (decimal n) ≡ true
+is_high-decimal =
+    decimal_by_steps (λ _ digits. is_high digits ≡ true) (λ n below. digit n)
+    (λ n digits above others.
+    list_all-append (λ b. ltb 0x2F b) digits ((48 + n % 10) ∷ [])
+    ∙ (λ j. others j && digit (n % 10) j))
+  where
+    digit : (n : ℕ) → is_high ((48 + n) ∷ []) ≡ true
+    digit n = ap (λ b. b && true) (lt-ltb 0x2F (48 + n) (omega arith))
+
 -- numbers are clear
 pub is_clear-decimal : (n : ℕ) → n < 2 ^ 64 → is_clear (decimal n) ≡ true
-is_clear-decimal =
-    decimal_by_steps (λ _ digits. is_clear digits ≡ true) (λ n below. digit_word n)
-    (λ n digits above others.
-    list_all-append (λ b. ltb 0x20 b) digits ((48 + n % 10) ∷ [])
-    ∙ (λ j. others j && digit_word (n % 10) j))
-  where
-    digit_word : (n : ℕ) → is_clear ((48 + n) ∷ []) ≡ true
-    digit_word n = ap (λ b. b && true) (lt-ltb 0x20 (48 + n) (omega arith))
+is_clear-decimal n fits = is_clear_high (decimal n) (is_high-decimal n fits)
 
 -- lists of numbers are clear
 pub are_clear_decimals : (ns : List ℕ) → All (λ n. n < 2 ^ 64) ns
@@ -122,14 +143,17 @@ are_clear_held None = refl
 are_clear_held (Some []) = refl
 are_clear_held (Some (b ∷ bytes)) = ap (λ r. r && true) (is_clear_pairs (b ∷ bytes))
 
--- all words of a call are clear
 below_wide : (n : ℕ) → n < 2 ^ 16 → n < 2 ^ 64
 below_wide n below = omega (arith, below)
 
+-- numbers of 16 bits have 64
+pub wide : (ns : List ℕ) → All (λ n. n < 2 ^ 16) ns → All (λ n. n < 2 ^ 64) ns
+wide ns fit = All-weaker (λ n. n < 2 ^ 16) (λ n. n < 2 ^ 64) below_wide ns fit
+
+-- all words of a call are clear
 pub are_clear-event : (e : Event) → IsFit e → are_clear (event_words e) ≡ true
 are_clear-event e fit =
-    let numbers = All-weaker (λ n. n < 2 ^ 16) (λ n. n < 2 ^ 64) below_wide (numbers_of e) fit.numbers in
     let others =
     are_clear-append (map decimal (numbers_of e)) (held_words (held_of e))
-    (are_clear_decimals (numbers_of e) numbers) (are_clear_held (held_of e)) in
+    (are_clear_decimals (numbers_of e) (wide (numbers_of e) fit.numbers)) (are_clear_held (held_of e)) in
     λ j. is_clear_name (kind_of e) j && others j

@@ -1,11 +1,12 @@
 -- Texts cut into words at their blanks.
-use Rattle.std.proofs.Common.{◌≡◌, ℕ, ◌+◌, Bool, true, false, eqb, cond, ltb, Some, None, List, [], ◌∷◌, length, take, drop, length-drop, ◌-◌, refl, sym, ap, ◌∙◌}
+use Rattle.std.proofs.Common.{◌≡◌, ℕ, ◌+◌, Bool, true, false, eqb, cond, ltb, Option, Some, None, List, [], ◌∷◌, length, take, drop, length-drop, ◌-◌, refl, sym, ap, ◌∙◌}
 use Rattle.std.proofs.Math.Seq.{take-length}
 use Rattle.std.specs.List.{onto_first, position, position_from, position_or_len}
 use Rattle.std.proofs.lemmas.Bool.{ltb-true}
 use Rattle.std.proofs.lemmas.List.Splits.{slice_split_first, slice_split-cons_no}
 use Rattle.std.proofs.lemmas.Iterator.Adapters.{position_from-zero}
 use Rattle.vt_journal.specs.Cut.{words_of_text}
+use Rattle.vt_journal.specs.Taking.{if_none_left}
 
 -- the first word ends at the first blank
 pub cut_at : (text : List ℕ) (i : ℕ) → Some i ≡ position (λ b. eqb b 0x20) text
@@ -45,3 +46,14 @@ cut_none text none =
 pub rest_is : (text : List ℕ) (n : ℕ) → take (length text - n) (drop n text) ≡ drop n text
 rest_is text n =
     ap (λ m. take m (drop n text)) (sym (length-drop n text)) ∙ take-length (drop n text)
+
+-- a text has a word, so none is the last
+pub some_left : {X : Type 0} (text : List ℕ) (taken : Option X) → None ≡ if_none_left (words_of_text text) taken
+some_left [] taken = refl
+some_left (b ∷ text) taken = by_test (eqb b 0x20) (words_of_text text)
+  where
+    by_test : (r : Bool) (words : List (List ℕ))
+        → None ≡ if_none_left (cond r ([] ∷ words) (onto_first b words)) taken
+    by_test true words = refl
+    by_test false [] = refl
+    by_test false (word ∷ words) = refl

@@ -1,19 +1,20 @@
--- Words of one digit, and of two.
-use Rattle.itoa.proofs.Decimal.{decimal_two}
-use Rattle.std.proofs.Common.{◌≡◌, ℕ, ◌+◌, ◌-◌, ◌*◌, ◌/◌, ◌%◌, ◌≤◌, [], ◌∷◌, decimal, arith, ap, ◌∙◌}
-use Rattle.std.proofs.lemmas.Fmt.{decimal_digit}
+-- Words of digits.
+use Rattle.std.proofs.Common.{◌≡◌, ℕ, ◌+◌, ◌*◌, ◌/◌, ◌%◌, ◌<◌, ◌≤◌, List, [], ◌∷◌, ◌++◌, decimal, get_or, length, take, arith, sym, ap, ◌∙◌}
+use Rattle.std.proofs.lemmas.Fmt.{decimal_digit, decimal_step}
+use Rattle.std.proofs.lemmas.List.{take_more}
 
--- a digit spells its number
-pub digit_spells : (ones n : ℕ) → 48 ≤ ones → ones ≤ 57 → n ≡ ones - 48 → decimal n ≡ ones ∷ []
-digit_spells ones n least most is =
-    let same : 48 + n ≡ ones = omega arith in
-    decimal_digit n (omega arith) ∙ ap (λ b. b ∷ []) same
+-- a digit
+pub one_digit : (word : List ℕ) (n : ℕ) → 0 < length word → n < 10 → get_or word 0 0 ≡ 48 + n
+    → decimal n ≡ take 1 word
+one_digit word n some one is =
+    decimal_digit n one ∙ ap (λ (b : ℕ). b ∷ []) (sym is) ∙ sym (take_more word 0 0 some)
 
--- two digits, of which the first is no zero, spell ten times the one and the other
-pub digits_spell : (tens ones m n : ℕ) → 49 ≤ tens → tens ≤ 57 → 48 ≤ ones → ones ≤ 57
-    → m ≡ tens - 48 → n ≡ ones - 48 → decimal (10 * m + n) ≡ tens ∷ ones ∷ []
-digits_spell tens ones m n first1 first9 least most is1 is2 =
-    let high : 48 + (10 * m + n) / 10 ≡ tens = omega arith in
-    let low : 48 + (10 * m + n) % 10 ≡ ones = omega arith in
-    decimal_two (10 * m + n) (omega arith) (omega arith)
-    ∙ (ap (λ b. b ∷ (48 + (10 * m + n) % 10) ∷ []) high ∙ ap (λ b. tens ∷ b ∷ []) low)
+-- one more digit
+pub decimal_more : (n d : ℕ) (digits : List ℕ) → 1 ≤ n → n < 100000000 → d < 10 → decimal n ≡ digits
+    → decimal (10 * n + d) ≡ digits ++ (48 + d) ∷ []
+decimal_more n d digits some short one is =
+    let high : (10 * n + d) / 10 ≡ n = omega arith in
+    let low : (10 * n + d) % 10 ≡ d = omega arith in
+    decimal_step (10 * n + d) (omega arith) (omega arith)
+    ∙ (λ j. decimal (high j) ++ (48 + low j) ∷ [])
+    ∙ ap (λ ds. ds ++ (48 + d) ∷ []) is

@@ -1,40 +1,28 @@
 -- A first line is that of one version.
-use Rattle.std.proofs.Common.{◌≡◌, ◌≢◌, ℕ, ◌+◌, ◌<◌, ◌^◌, ◌&&◌, ◌⊎◌, inl, inr, ⊎_elim, true, List, [], ◌∷◌, ◌++◌, codes, decimal, refl, sym, ap, ◌∙◌, arith}
+use Rattle.std.proofs.Common.{◌≡◌, ◌≢◌, ℕ, ◌+◌, ◌<◌, ◌^◌, ◌&&◌, ◌⊎◌, inl, inr, ⊎_elim, true, List, [], ◌∷◌, ◌++◌, codes, decimal, sym, ap, ◌∙◌, arith}
 use Rattle.std.proofs.lemmas.Bool.{cases_lt}
 use Rattle.std.proofs.lemmas.Fmt.{decimal_digit, decimal_injective}
 use Rattle.vt_journal.specs.Callers.{IsVersion}
-use Rattle.vt_journal.specs.Cut.{words_of_text}
 use Rattle.vt_journal.specs.Journal.{first_words, line_text}
-use Rattle.vt_journal.specs.Lines.{IsLine}
 use Rattle.vt_journal.specs.Says.{HasFirst, IsNoFirst}
-use Rattle.vt_journal.specs.Words.{joined_by_blanks}
-use Rattle.vt_journal.proofs.Clear.{are_clear, words_of_text-joined_by_blanks, is_clear-decimal, line_joined_by_blanks}
-use Rattle.vt_journal.proofs.Once.{lines_once}
+use Rattle.vt_journal.proofs.Clear.{is_clear-decimal}
+use Rattle.vt_journal.proofs.OneSpelling.{OneSpelling, first_once}
 
 small : (version : ℕ) → IsVersion version → version < 2 ^ 64
 small version known = omega (arith, known.1)
 
-clear : (version : ℕ) → IsVersion version → are_clear (decimal version ∷ []) ≡ true
-clear version known = ap (λ b. b && true) (is_clear-decimal version (small version known))
-
-line_first : (version : ℕ) → IsVersion version → IsLine (joined_by_blanks (first_words version))
-line_first version known =
-    line_joined_by_blanks (codes "%journal") (decimal version ∷ []) refl (clear version known)
-
-cut_first : (version : ℕ) → IsVersion version → words_of_text (joined_by_blanks (first_words version)) ≡ first_words version
-cut_first version known =
-    words_of_text-joined_by_blanks (codes "%journal") (decimal version ∷ []) refl (clear version known)
-
-pub first_once : (v w : ℕ) (rest more : List ℕ) → IsVersion v → IsVersion w
-    → line_text (first_words v) ++ rest ≡ line_text (first_words w) ++ more → v ≡ w
-first_once v w rest more known_v known_w same =
-    let both =
-    lines_once (first_words v) (first_words w) rest more (line_first v known_v) (line_first w known_w)
-    same in
-    let words : first_words v ≡ first_words w =
-    sym (cut_first v known_v) ∙ ap words_of_text both.0 ∙ cut_first w known_w in
+version_once : (v w : ℕ) (rest more : List (List ℕ)) → IsVersion v → IsVersion w
+    → first_words v ++ rest ≡ first_words w ++ more → (v ≡ w) × (rest ≡ more)
+version_once v w rest more known_v known_w same =
     let digits : decimal v ≡ decimal w = cc in
-    decimal_injective v w (small v known_v) (small w known_w) digits
+    let others : rest ≡ more = cc in
+    (decimal_injective v w (small v known_v) (small w known_w) digits, others)
+
+pub version_spelling : OneSpelling first_words IsVersion
+version_spelling = record {
+  clear = λ version known. ap (λ b. b && true) (is_clear-decimal version (small version known));
+  once = version_once;
+}
 
 -- there are two versions
 two : (version : ℕ) → IsVersion version → (version ≡ 1) ⊎ (version ≡ 2)
@@ -70,4 +58,4 @@ no_first text old new version has =
 pub names_one : (text : List ℕ) (v : ℕ) (rest : List ℕ) → IsVersion v
     → text ≡ line_text (first_words v) ++ rest → (version : ℕ) → HasFirst version text → v ≡ version
 names_one text v rest known is version has =
-    first_once v version rest has.rest known has.known (sym is ∙ has.parts)
+    (first_once version_spelling v version rest has.rest known has.known (sym is ∙ has.parts)).0

@@ -6,6 +6,7 @@ pub mod Digits
 pub mod Firsts
 pub mod Lines
 pub mod Once
+pub mod OneSpelling
 pub mod Pairs
 pub mod ReplyWords
 pub mod Saying

@@ -1,16 +1,12 @@
 -- Lines, made word by word.
-use Rattle.std.proofs.Common.{◌≡◌, ℕ, ◌+◌, ◌/◌, ◌%◌, ◌<◌, ◌≤◌, arith, List, [], ◌∷◌, ◌++◌, decimal, length, map, take, get_or, sym, ap, ◌∙◌, add-one, append_assoc}
+use Rattle.std.proofs.Common.{◌≡◌, ℕ, ◌+◌, ◌/◌, ◌%◌, ◌<◌, ◌≤◌, arith, List, [], ◌∷◌, ◌++◌, decimal, length, map, take, get_or, sym, ap, subst, ◌∙◌, append_assoc}
 use Rattle.itoa.proofs.Decimal.{decimal_pair, pair}
 use Rattle.std.proofs.lemmas.Fmt.{decimal_digit}
 use Rattle.std.proofs.lemmas.List.Concat.{flat_map-append}
-use Rattle.std.proofs.Math.Seq.{take-suc}
-use Rattle.std.proofs.lemmas.List.{append-nil, map-append}
+use Rattle.std.proofs.lemmas.List.{append-nil, flat_map_more, map_push, take_more}
 use Rattle.std.proofs.lemmas.List.Elements.{All-push}
 use Rattle.std.specs.List.{All, flat_map}
-use Rattle.vt_events.specs.Plain.{plain_entry}
-use Rattle.vt_events.specs.declared.entry.Entry.{Entry}
-use Rattle.vt_journal.specs.Journal.{entry_words, line_text}
-use Rattle.vt_journal.specs.Says.{IsFitEntry}
+use Rattle.vt_journal.specs.Journal.{line_text}
 use Rattle.vt_journal.specs.Text.{blank_before_each}
 use Rattle.vt_journal.specs.Words.{joined_by_blanks}
 
@@ -48,60 +44,23 @@ numbered_line name ns i t0 t1 all is =
     is ∙ ap (λ ms. (t0 ++ name) ++ blank_before_each (map decimal ms)) all in
     rw (joined_by_blanks-cons name (map decimal ns)) (simp (whole, append_assoc))
 
--- a name and numbers, with a blank before each, from their pieces
-pub named_numbers : (name ns : List ℕ) (i : ℕ) (t0 t1 : List ℕ) → take i ns ≡ ns
-    → t1 ≡ (t0 ++ 0x20 ∷ name) ++ blank_before_each (map decimal (take i ns))
-    → t1 ≡ t0 ++ blank_before_each (name ∷ map decimal ns)
-named_numbers name ns i t0 t1 all is =
-    is
-    ∙ ap (λ ms. (t0 ++ 0x20 ∷ name) ++ blank_before_each (map decimal ms)) all
-    ∙ append_assoc t0 (0x20 ∷ name) (blank_before_each (map decimal ns))
+-- one more piece, after a front and those of the first elements
+pub piece_more : {X Y : Type 0} (f : Y → List ℕ) (g : X → Y) (front : List ℕ) (head : List Y) (xs : List X) (i : ℕ)
+    (x d : X) (text more : List ℕ) → i < length xs → x ≡ get_or xs i d
+    → text ≡ front ++ flat_map f (head ++ map g (take i xs)) → more ≡ text ++ f (g x)
+    → more ≡ front ++ flat_map f (head ++ map g (take (i + 1) xs))
+piece_more f g front head xs i x d text more within is so_far added =
+    let next : take (i + 1) xs ≡ take i xs ++ x ∷ [] =
+    take_more xs i d within ∙ ap (λ y. take i xs ++ y ∷ []) (sym is) in
+    added
+    ∙ ap (λ t. t ++ f (g x)) so_far
+    ∙ flat_map_more f front (head ++ map g (take i xs)) (g x)
+    ∙ ap (λ ys. front ++ flat_map f ys)
+    (append_assoc head (map g (take i xs)) (g x ∷ [])
+    ∙ ap (λ ys. head ++ ys) (sym (map_push g (take i xs) x) ∙ ap (map g) (sym next)))
 
--- one more number with a blank before it, after the first ones
-pub numbers_more : (ns : List ℕ) (i : ℕ) (front text more : List ℕ) → i < length ns
-    → text ≡ front ++ blank_before_each (map decimal (take i ns)) → more ≡ text ++ 0x20 ∷ decimal (get_or ns i 0)
-    → more ≡ front ++ blank_before_each (map decimal (take (i + 1) ns))
-numbers_more ns i front text more within so_far added =
-    let n = get_or ns i 0 in
-    let next : take (i + 1) ns ≡ take i ns ++ n ∷ [] =
-    ap (λ k. take k ns) (add-one i) ∙ take-suc ns i 0 within in
-    rw (next, map-append decimal (take i ns) (n ∷ []))
-    (rw (flat_map-append (λ (word : List ℕ). 0x20 ∷ word) (map decimal (take i ns)) (decimal n ∷ []))
-    (simp (added, so_far, append_assoc, append-nil)))
-
--- one more line, after those of the first entries
-pub lines_more : (version : ℕ) (head : List (List ℕ)) (entries : List Entry) (i : ℕ) (entry : Entry)
-    (old text more : List ℕ) → i < length entries → entry ≡ get_or entries i entry
-    → text ≡ old ++ flat_map line_text (head ∷ map (entry_words version) (take i entries))
-    → more ≡ text ++ line_text (entry_words version entry)
-    → more ≡ old ++ flat_map line_text (head ∷ map (entry_words version) (take (i + 1) entries))
-lines_more version head entries i entry old text more within is so_far added =
-    let next : take (i + 1) entries ≡ take i entries ++ entry ∷ [] =
-    ap (λ n. take n entries) (add-one i)
-    ∙ take-suc entries i entry within
-    ∙ ap (λ e. take i entries ++ e ∷ []) (sym is) in
-    rw (next, map-append (entry_words version) (take i entries) (entry ∷ []))
-    (rw (flat_map-append line_text (map (entry_words version) (take i entries)) (entry_words version entry ∷ []))
-    (simp (added, so_far, append_assoc, append-nil)))
-
--- one more entry that is fit, after the first ones
-pub fit_more : (version : ℕ) (entries : List Entry) (i : ℕ) (entry : Entry) → i < length entries
-    → entry ≡ get_or entries i entry → All (IsFitEntry version) (map plain_entry (take i entries))
-    → IsFitEntry version (plain_entry entry) → All (IsFitEntry version) (map plain_entry (take (i + 1) entries))
-fit_more version entries i entry within is so_far fit =
-    let next : take (i + 1) entries ≡ take i entries ++ entry ∷ [] =
-    ap (λ n. take n entries) (add-one i)
-    ∙ take-suc entries i entry within
-    ∙ ap (λ e. take i entries ++ e ∷ []) (sym is) in
-    rw (next, map-append plain_entry (take i entries) (entry ∷ []))
-    (All-push (IsFitEntry version) (map plain_entry (take i entries)) (plain_entry entry) so_far fit)
-
--- one more entry of which the same holds
-pub all_more : (P : Entry → Type 0) (entries : List Entry) (i : ℕ) (entry : Entry) → i < length entries
-    → entry ≡ get_or entries i entry → All P (take i entries) → P entry → All P (take (i + 1) entries)
-all_more P entries i entry within is so_far holds =
-    let next : take (i + 1) entries ≡ take i entries ++ entry ∷ [] =
-    ap (λ n. take n entries) (add-one i)
-    ∙ take-suc entries i entry within
-    ∙ ap (λ e. take i entries ++ e ∷ []) (sym is) in
-    rw next (All-push P (take i entries) entry so_far holds)
+-- one more element of which a fact holds
+pub all_more : {X : Type 0} (P : X → Type 0) (xs : List X) (i : ℕ) (x : X) → i < length xs → x ≡ get_or xs i x
+    → All P (take i xs) → P x → All P (take (i + 1) xs)
+all_more P xs i x within is so_far holds =
+    rw (take_more xs i x within) (All-push P (take i xs) (get_or xs i x) so_far (subst P is holds))

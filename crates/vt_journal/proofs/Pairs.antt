@@ -1,6 +1,6 @@
 -- Bytes and their hexadecimal digits.
 use Rattle.std.proofs.Common.{◌≡◌, ◌≢◌, ℕ, zero, suc, ◌+◌, ◌*◌, ◌/◌, ◌%◌, ◌<◌, ◌^◌, ◌-◌, true, false, cond, eqb, ltb, Option, Some, None, Result, Ok, Err, List, [], ◌∷◌, ◌++◌, codes, length, take, get_or, arith, sym, ap, refl, ◌∙◌, append_assoc}
-use Rattle.std.specs.Prelude.{IfOk, IfNone}
+use Rattle.std.specs.Prelude.{IfOk, option_map}
 use Rattle.std.specs.Cmp.Lexicographic.{pointwise}
 use Rattle.std.specs.List.{All, flat_map}
 use Rattle.std.proofs.Math.Seq.{take-suc}
@@ -8,6 +8,7 @@ use Rattle.std.proofs.lemmas.Bool.Decides.{nat_tests}
 use Rattle.std.proofs.lemmas.List.Concat.{flat_map-append}
 use Rattle.std.proofs.lemmas.List.Elements.{All-cons}
 use Rattle.vt_journal.specs.Hex.{hex_byte, hex_digit, hex_text}
+use Rattle.vt_journal.specs.Taking.{Finds}
 
 -- each byte has two digits
 pub length_hex : (bytes : List ℕ) → length (flat_map hex_byte bytes) ≡ 2 * length bytes
@@ -76,12 +77,18 @@ All_more (x ∷ bytes) b fit all =
     All-cons (λ x. x < 2 ^ 8) x (bytes ++ b ∷ []) (all 0 0 (omega arith))
     (All_more bytes b fit (λ k d inside. all (suc k) d (omega arith)))
 
--- if nothing was found, the fact of that case holds
-pub none_then : {X E P Q : Type 0} (r : Result (Option X) E) → (P → Q)
-    → IfOk r (λ found. IfNone found P) → IfOk r (λ found. IfNone found Q)
-none_then (Ok None) more none = more none
-none_then (Ok (Some x)) more none = tt
-none_then (Err e) more none = tt
+-- digits are the text of the bytes that they spell
+pub finds_hex : {X E : Type 0} (bytes_of : X → List ℕ) (word : List ℕ) (r : Result (Option X) E)
+    → 0 < length word → word ≢ codes "-"
+    → IfOk r (λ found. Finds (flat_map hex_byte) (All (λ x. x < 2 ^ 8)) word (option_map bytes_of found))
+    → IfOk r (λ found. Finds hex_text (All (λ x. x < 2 ^ 8)) word (option_map bytes_of found))
+finds_hex bytes_of word (Err e) some no_dash finds = tt
+finds_hex bytes_of word (Ok None) some no_dash none = λ bytes fit is. none bytes fit (hex_some word bytes no_dash is).1
+finds_hex bytes_of word (Ok (Some x)) some no_dash is = by_bytes (bytes_of x) is
+  where
+    by_bytes : (bytes : List ℕ) → flat_map hex_byte bytes ≡ word → hex_text bytes ≡ word
+    by_bytes [] is = absurd (omega (arith, some, ap length is))
+    by_bytes (b ∷ bytes) is = is
 
 -- a word that compares as different from the dash is not the dash
 pub no_dash : (word dash : List ℕ) → dash ≡ codes "-" → false ≡ pointwise eqb word dash

@@ -1,7 +1,7 @@
 -- The words of an answer, and the answer of words.
 use Rattle.std.proofs.Common.{◌≡◌, ℕ, ◌<◌, ◌≤◌, ◌^◌, Bool, true, ◌&&◌, cond, eqb, ltb, Option, Some, None, Result, Ok, Err, List, [], ◌∷◌, ◌++◌, find, get_or, length, map, decimal, refl, sym, ap, subst, ◌∙◌, append_assoc, arith}
 use Rattle.std.specs.List.{All, list_all}
-use Rattle.std.specs.Prelude.{IfNone, OnOk, unwrap_or}
+use Rattle.std.specs.Prelude.{◌≢◌, IfNone, IfSome, OnOk, unwrap_or}
 use Rattle.std.proofs.lemmas.List.{get_or-replicate}
 use Rattle.vt_base.specs.Bytes.{Text}
 use Rattle.vt_base.specs.declared.vt_mode.VtMode.{VtMode}
@@ -18,6 +18,7 @@ use Rattle.vt_events.specs.Plain.{plain_reply}
 use Rattle.vt_events.specs.declared.reply.Reply.{Reply}
 use Rattle.vt_events.specs.declared.reply.Reply.TheVariants as reply
 use Rattle.vt_journal.specs.Replies.{IsFitReply, Within, kind_of, mosts, reply_held, reply_holds, reply_name, reply_numbers}
+use Rattle.vt_journal.specs.Taking.{Takes}
 use Rattle.vt_journal.specs.Words.{held_words, reply_words}
 use Rattle.vt_journal.specs.declared.reply_kind.ReplyKind.{ReplyKind}
 use Rattle.vt_journal.specs.declared.reply_kind.ReplyKind.TheVariants as kind
@@ -162,10 +163,11 @@ pub record NumbersAre (ns : List ℕ) (v : List (List ℕ)) (r : Reply) (rest : 
   pub numbers : ns ≡ reply_numbers r
   pub words : v ≡ held_words (reply_held r) ++ rest
 
-pub numbers_are : (k : ReplyKind) (ns : List ℕ) (u v : List (List ℕ)) (r : Reply)
-    (rest : List (List ℕ)) → ReplyIs k u r rest → IsFitReply r → Within (mosts k) ns
+pub numbers_are : (k : ReplyKind) (most ns : List ℕ) (u v : List (List ℕ)) (r : Reply)
+    (rest : List (List ℕ)) → ReplyIs k u r rest → IsFitReply r → most ≡ mosts k → Within most ns
     → u ≡ map decimal ns ++ v → NumbersAre ns v r rest
-numbers_are k ns u v r rest is fit within numbers =
+numbers_are k most ns u v r rest is fit its_most within_most numbers =
+    let within : Within (mosts k) ns = subst (λ most. Within most ns) its_most within_most in
     let within_r : Within (mosts k) (reply_numbers r) =
     subst (λ k. Within (mosts k) (reply_numbers r)) is.kind fit.numbers in
     let both =
@@ -195,7 +197,7 @@ reply_once r s u v fit_r fit_s same =
     ap (λ words. words ++ u) (reply_parts r) in
     let is = reply_is (reply_words r ++ u) _ (kind_of r) s v same parts in
     let are =
-    numbers_are (kind_of r) (reply_numbers r) _ (held_words (reply_held r) ++ u) s v is fit_s
+    numbers_are (kind_of r) _ (reply_numbers r) _ (held_words (reply_held r) ++ u) s v is fit_s refl
     fit_r.numbers (append_assoc (map decimal (reply_numbers r)) (held_words (reply_held r)) u) in
     let holds : Bool = reply_holds (kind_of r) in
     let held =
@@ -210,11 +212,6 @@ reply_once r s u v fit_r fit_s same =
       held.1,
     )
 
--- the answer made of the kind, numbers and bytes that were read has these words
-pub record IsReplyRead (words : List (List ℕ)) (r : Reply) (rest : List (List ℕ)) : Type 0 where
-  pub parts : words ≡ reply_words r ++ rest
-  pub fit : IsFitReply r
-
 -- words of an answer begin with the name of its kind
 pub named_reply : (r : Reply) (rest : List (List ℕ))
     → (more : List (List ℕ)) × (reply_words r ++ rest ≡ reply_name (kind_of r) ∷ more)
@@ -223,10 +220,13 @@ named_reply r rest = (
   ap (λ words. words ++ rest) (reply_parts r),
 )
 
--- if there is none, the fact of that case holds
-pub none_more : {X P Q : Type 0} (o : Option X) → (P → Q) → IfNone o P → IfNone o Q
-none_more None more none = more none
-none_more (Some x) more none = tt
+-- an answer that is made of what was read is the one that the words spell
+pub takes_answer : (old new : List (List ℕ)) (made : Option Reply) (Other : Type 0)
+    → IfSome made (λ r. old ≡ reply_words r ++ new) → IfNone made Other
+    → (Other → (r : Reply) (rest : List (List ℕ)) → IsFitReply r → old ≢ reply_words r ++ rest)
+    → Takes reply_words IsFitReply old new made
+takes_answer old new (Some r) Other found none more = found
+takes_answer old new None Other found none more = more none
 
 -- a fact that holds for every result of a call holds after Ok
 pub always : {T E P : Type 0} (r : Result T E) → P → OnOk r P

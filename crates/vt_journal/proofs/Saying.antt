@@ -1,9 +1,8 @@
 -- A text has one meaning as a journal.
-use Rattle.std.proofs.Common.{◌≡◌, ◌≢◌, ℕ, ◌+◌, ◌≤◌, ◌⊎◌, inl, inr, List, [], ◌∷◌, ◌++◌, Result, Ok, codes, decimal, length, map, refl, sym, ap, subst, ◌∙◌, append_assoc, arith}
+use Rattle.std.proofs.Common.{◌≡◌, ◌≢◌, ℕ, ◌+◌, ◌≤◌, ◌⊎◌, inl, inr, List, [], ◌∷◌, ◌++◌, Result, Ok, codes, decimal, length, map, refl, sym, ap, subst, ◌∙◌, arith}
 use Rattle.std.specs.List.{All, flat_map}
-use Rattle.std.proofs.lemmas.List.{append-nil, append_cancel_left, length-map, map-append}
+use Rattle.std.proofs.lemmas.List.{append_cancel_left, length-map}
 use Rattle.std.proofs.lemmas.List.Concat.{flat_map-append}
-use Rattle.std.proofs.lemmas.List.Elements.{All-head, All-push, All-tail}
 use Rattle.vt_events.specs.Plain.{plain_entry, plain_event, plain_reply}
 use Rattle.vt_events.specs.declared.entry.Entry.{Entry}
 use Rattle.vt_events.specs.declared.event.Event.{Event}
@@ -18,49 +17,9 @@ use Rattle.vt_journal.specs.Words.{event_words, reply_words}
 use Rattle.vt_journal.specs.declared.j_fault.JFault.{JFault}
 use Rattle.vt_journal.specs.declared.journal.Journal.{Journal}
 use Rattle.vt_journal.specs.declared.tail.Tail.{Tail}
-use Rattle.vt_journal.proofs.Firsts.{first_once}
-use Rattle.vt_journal.proofs.Once.{entry_line_once, lines_apart, some_line, tail_line_once}
-
--- the lines of entries, and the rest
-abbrev pub body : ℕ → List Entry → List ℕ → List ℕ
-body version entries rest = flat_map line_text (map (entry_words version) entries) ++ rest
-
-next_line : (version : ℕ) (d : Entry) (a : List Entry) (u : List ℕ)
-    → body version (d ∷ a) u ≡ line_text (entry_words version d) ++ body version a u
-next_line version d a u =
-    append_assoc (line_text (entry_words version d)) (flat_map line_text (map (entry_words version) a)) u
-
--- after the entries there is no other, so they are all
-same_front : (version : ℕ) (a b : List Entry) (u v : List ℕ) → All (IsFitEntry version) a → All (IsFitEntry version) b → IsNoEntry version u
-    → IsNoEntry version v → body version a u ≡ body version b v → (a ≡ b) × (u ≡ v)
-same_front version [] [] u v fit_a fit_b none_u none_v same = (refl, same)
-same_front version [] (e ∷ b) u v fit_a fit_b none_u none_v same =
-    absurd (none_u e (body version b v) (All-head (IsFitEntry version) e b fit_b) (same ∙ next_line version e b v))
-same_front version (d ∷ a) [] u v fit_a fit_b none_u none_v same =
-    absurd (none_v d (body version a u) (All-head (IsFitEntry version) d a fit_a) (sym same ∙ next_line version d a u))
-same_front version (d ∷ a) (e ∷ b) u v fit_a fit_b none_u none_v same =
-    let first =
-    entry_line_once version d e (body version a u) (body version b v) (All-head (IsFitEntry version) d a fit_a)
-    (All-head (IsFitEntry version) e b fit_b) (sym (next_line version d a u) ∙ same ∙ next_line version e b v) in
-    let others =
-    same_front version a b u v (All-tail (IsFitEntry version) d a fit_a) (All-tail (IsFitEntry version) e b fit_b) none_u none_v
-    first.1 in
-    (λ j. first.0 j ∷ others.0 j, others.1)
-
-no_longer : (version : ℕ) (a b : List Entry) (u v : List ℕ) → All (IsFitEntry version) a → All (IsFitEntry version) b → IsNoEntry version u
-    → body version a u ≡ body version b v → length b ≤ length a
-no_longer version a [] u v fit_a fit_b none_u same = omega arith
-no_longer version [] (e ∷ b) u v fit_a fit_b none_u same =
-    absurd (none_u e (body version b v) (All-head (IsFitEntry version) e b fit_b) (same ∙ next_line version e b v))
-no_longer version (d ∷ a) (e ∷ b) u v fit_a fit_b none_u same =
-    let first =
-    entry_line_once version d e (body version a u) (body version b v) (All-head (IsFitEntry version) d a fit_a)
-    (All-head (IsFitEntry version) e b fit_b) (sym (next_line version d a u) ∙ same ∙ next_line version e b v) in
-    omega (
-      arith,
-      no_longer version a b u v (All-tail (IsFitEntry version) d a fit_a) (All-tail (IsFitEntry version) e b fit_b) none_u
-          first.1,
-    )
+use Rattle.vt_journal.proofs.Firsts.{version_spelling}
+use Rattle.vt_journal.proofs.Once.{entry_spelling, lines_apart, tail_spelling}
+use Rattle.vt_journal.proofs.OneSpelling.{IsSoFar, body, first_once, no_longer, same_front, some_line}
 
 -- the text after the entries, if no entry follows
 data Follows (version : ℕ) (entries : List Entry) (u : List ℕ) : Result Journal JFault → Type 0 where
@@ -73,12 +32,12 @@ follows_once : (version : ℕ) (entries : List Entry) (u : List ℕ) (a b : Resu
     → Follows version entries u a → Follows version entries u b → a ≡ b
 follows_once version entries u a b (Ends d fit_d is_d) (Ends e fit_e is_e) =
     ap (λ (end : Tail). Ok (record { version = version; entries = entries; tail = end }))
-    (tail_line_once d e [] [] fit_d fit_e (sym is_d ∙ is_e)).0
+    (first_once tail_spelling d e [] [] fit_d fit_e (sym is_d ∙ is_e)).0
 follows_once version entries u a b (Ends d fit_d is_d) (Fails some none) = absurd (none d [] fit_d is_d)
 follows_once version entries u a b (Ends d fit_d is_d) (Stops none) =
     absurd (some_line (tail_words d) [] (sym is_d ∙ none))
 follows_once version entries u a b (Ends d fit_d is_d) (Goes e rest fit_e is_e some) =
-    absurd (some (sym (tail_line_once d e [] rest fit_d fit_e (sym is_d ∙ is_e)).1))
+    absurd (some (sym (first_once tail_spelling d e [] rest fit_d fit_e (sym is_d ∙ is_e)).1))
 follows_once version entries u a b (Fails some none) (Ends e fit_e is_e) = absurd (none e [] fit_e is_e)
 follows_once version entries u a b (Fails some none) (Fails other others) = refl
 follows_once version entries u a b (Fails some none) (Stops is) = absurd (some is)
@@ -91,7 +50,7 @@ follows_once version entries u a b (Stops none) (Stops other) = refl
 follows_once version entries u a b (Stops none) (Goes e rest fit_e is_e more) =
     absurd (some_line (tail_words e) rest (sym is_e ∙ none))
 follows_once version entries u a b (Goes d rest fit_d is_d some) (Ends e fit_e is_e) =
-    absurd (some (tail_line_once d e rest [] fit_d fit_e (sym is_d ∙ is_e)).1)
+    absurd (some (first_once tail_spelling d e rest [] fit_d fit_e (sym is_d ∙ is_e)).1)
 follows_once version entries u a b (Goes d rest fit_d is_d some) (Fails more none) =
     absurd (none d rest fit_d is_d)
 follows_once version entries u a b (Goes d rest fit_d is_d some) (Stops none) =
@@ -107,7 +66,7 @@ data Said (text : List ℕ) : Result Journal JFault → Type 0 where
 -- the text of a journal after its entries
 pub parts_of : (version : ℕ) (entries : List Entry) (end : Tail)
     → journal_text version entries end
-    ≡ line_text (first_words version) ++ body version entries (line_text (tail_words end) ++ [])
+    ≡ line_text (first_words version) ++ body (entry_words version) entries (line_text (tail_words end) ++ [])
 parts_of version entries end =
     ap (λ text. line_text (first_words version) ++ text)
     (flat_map-append line_text (map (entry_words version) entries) (tail_words end ∷ []))
@@ -139,31 +98,28 @@ said text a (TooMany version entries rest begins many) = Many version entries re
 one_version : (v w : ℕ) (text : List ℕ) (a b : List Entry) (u t : List ℕ) → Begins v text a u
     → Begins w text b t → v ≡ w
 one_version v w text a b u t one other =
-    first_once v w (body v a u) (body w b t) one.known other.known (sym one.parts ∙ other.parts)
+    (first_once version_spelling v w (body (entry_words v) a u) (body (entry_words w) b t) one.known other.known
+    (sym one.parts ∙ other.parts)).0
 
 bodies : (version : ℕ) (text : List ℕ) (a b : List Entry) (u v : List ℕ) → Begins version text a u → Begins version text b v
-    → body version a u ≡ body version b v
+    → body (entry_words version) a u ≡ body (entry_words version) b v
 bodies version text a b u v one other =
-    append_cancel_left (line_text (first_words version)) (body version a u) (body version b v) (sym one.parts ∙ other.parts)
-
-too_many : (version : ℕ) (text : List ℕ) (a b : List Entry) (u v : List ℕ) → Begins version text a u → Begins version text b v
-    → IsNoEntry version u → length a ≤ most_entries → length b ≡ most_entries + 1 → ⊥
-too_many version text a b u v one other none few many =
-    omega (arith, few, many, no_longer version a b u v one.fit other.fit none (bodies version text a b u v one other))
+    append_cancel_left (line_text (first_words version)) (body (entry_words version) a u) (body (entry_words version) b v)
+    (sym one.parts ∙ other.parts)
 
 first_of : (version : ℕ) (text : List ℕ) (entries : List Entry) (rest : List ℕ)
     → Begins version text entries rest → HasFirst version text
 first_of version text entries rest begins = record {
   known = begins.known;
-  rest = body version entries rest;
+  rest = body (entry_words version) entries rest;
   parts = begins.parts;
 }
 
 crowded : (v w : ℕ) (text : List ℕ) (a b : List Entry) (u t : List ℕ) → Begins v text a u
     → Begins w text b t → IsNoEntry v u → length a ≤ most_entries → length b ≡ most_entries + 1 → ⊥
-crowded v w text a b u t one other =
-    too_many v text a b u t one
-    (subst (λ (n : ℕ). Begins n text b t) (sym (one_version v w text a b u t one other)) other)
+crowded v w text a b u t one other none few many =
+    let begins = subst (λ (n : ℕ). Begins n text b t) (sym (one_version v w text a b u t one other)) other in
+    omega (arith, few, many, no_longer (entry_spelling v) a b u t one.fit begins.fit none (bodies v text a b u t one begins))
 
 -- two readings of one version are one
 both_has : (version : ℕ) (text : List ℕ) (a b : Result Journal JFault) (entries others : List Entry)
@@ -172,7 +128,7 @@ both_has : (version : ℕ) (text : List ℕ) (a b : Result Journal JFault) (entr
     → Follows version others v b → a ≡ b
 both_has version text a b entries others u v begins begins_b no_entry none_b follows follows_b =
     let same =
-    same_front version entries others u v begins.fit begins_b.fit no_entry none_b
+    same_front (entry_spelling version) entries others u v begins.fit begins_b.fit no_entry none_b
     (bodies version text entries others u v begins begins_b) in
     follows_once version entries u a b follows
     (subst (λ entries. Follows version entries u b) (sym same.0)
@@ -235,27 +191,11 @@ printed_is_read version entries end known fit fit_e few =
     (sym (plain_entries version entries)))
 
 -- these entries were read, and the rest is left
-pub record IsSoFar (version : ℕ) (text : List ℕ) (entries : List Entry) (rest : List ℕ) : Type 0 where
-  pub fit : All (IsFitEntry version) entries
-  pub parts : text ≡ body version entries rest
-
-pub one_more : (version : ℕ) (text : List ℕ) (entries : List Entry) (rest : List ℕ) (entry : Entry) (behind : List ℕ)
-    → IsSoFar version text entries rest → IsFitEntry version entry
-    → rest ≡ line_text (entry_words version entry) ++ behind → IsSoFar version text (entries ++ entry ∷ []) behind
-one_more version text entries rest entry behind is fit next = record {
-  fit = All-push (IsFitEntry version) entries entry is.fit fit;
-  parts =
-      is.parts
-      ∙ ap (λ rest. flat_map line_text (map (entry_words version) entries) ++ rest) next
-      ∙ sym (append_assoc (flat_map line_text (map (entry_words version) entries)) (line_text (entry_words version entry)) behind)
-      ∙ ap (λ lines. lines ++ behind)
-      (ap (λ line. flat_map line_text (map (entry_words version) entries) ++ line) (sym (append-nil (line_text (entry_words version entry))))
-      ∙ sym (flat_map-append line_text (map (entry_words version) entries) (entry_words version entry ∷ []))
-      ∙ ap (flat_map line_text) (sym (map-append (entry_words version) entries (entry ∷ []))));
-}
+abbrev pub AreSoFar : ℕ → List ℕ → List Entry → List ℕ → Type 0
+AreSoFar version = IsSoFar (entry_words version) (IsFitEntry version)
 
 pub begun : (version : ℕ) (whole text : List ℕ) (entries : List Entry) (rest : List ℕ)
-    → IsVersion version → whole ≡ line_text (first_words version) ++ text → IsSoFar version text entries rest → Begins version whole entries rest
+    → IsVersion version → whole ≡ line_text (first_words version) ++ text → AreSoFar version text entries rest → Begins version whole entries rest
 begun version whole text entries rest known is so_far = record {
   known = known;
   fit = so_far.fit;
@@ -264,24 +204,24 @@ begun version whole text entries rest known is so_far = record {
 
 -- the whole text was read
 pub whole_is : (version : ℕ) (whole text : List ℕ) (entries : List Entry) (rest : List ℕ) (end : Tail)
-    → IsVersion version → whole ≡ line_text (first_words version) ++ text → IsSoFar version text entries rest → IsFitTail end
+    → IsVersion version → whole ≡ line_text (first_words version) ++ text → AreSoFar version text entries rest → IsFitTail end
     → rest ≡ line_text (tail_words end) ++ [] → length entries ≤ most_entries
     → JournalSays whole (Ok (record { version = version; entries = entries; tail = end }))
 whole_is version whole text entries rest end known is so_far fit next few =
     Whole version entries end known so_far.fit fit few
     (is
-    ∙ ap (λ text. line_text (first_words version) ++ text) (so_far.parts ∙ ap (body version entries) next)
+    ∙ ap (λ text. line_text (first_words version) ++ text) (so_far.parts ∙ ap (body (entry_words version) entries) next)
     ∙ sym (parts_of version entries end))
 
 -- a text follows the last line
 pub more_is : (version : ℕ) (whole text : List ℕ) (entries : List Entry) (rest : List ℕ) (end : Tail) (behind : List ℕ)
-    → IsVersion version → whole ≡ line_text (first_words version) ++ text → IsSoFar version text entries rest → IsFitTail end
+    → IsVersion version → whole ≡ line_text (first_words version) ++ text → AreSoFar version text entries rest → IsFitTail end
     → rest ≡ line_text (tail_words end) ++ behind → length entries ≤ most_entries → behind ≢ []
     → JournalSays whole (fault 43 (length entries + 2))
 more_is version whole text entries rest end behind known is so_far fit next few some =
     More version entries end behind
     (begun version whole text entries (line_text (tail_words end) ++ behind) known is
-    (subst (IsSoFar version text entries) next so_far))
+    (subst (AreSoFar version text entries) next so_far))
     few fit some
 
 -- a text is empty, or it isn't

@@ -1,39 +1,21 @@
 -- The words of a call, and the call of words.
-use Rattle.std.proofs.Common.{◌≡◌, ℕ, ◌<◌, ◌^◌, Bool, true, false, suc, Option, Some, None, is_some, List, [], ◌∷◌, ◌++◌, length, map, decimal, refl, sym, ap, subst, ◌∙◌, append_assoc, arith}
-use Rattle.std.specs.Borrow.{Bor}
+use Rattle.std.proofs.Common.{◌≡◌, ℕ, ◌<◌, ◌^◌, Bool, true, false, suc, Option, Some, None, List, [], ◌∷◌, ◌++◌, length, map, decimal, refl, sym, ap, subst, ◌∙◌, append_assoc, arith}
 use Rattle.std.specs.List.{All}
-use Rattle.std.specs.Option.{MatchOption}
-use Rattle.std.specs.Prelude.{IfSome, unwrap_or}
+use Rattle.std.specs.Prelude.{IfNone, IfSome, unwrap_or}
 use Rattle.std.proofs.lemmas.Fmt.{decimal_injective}
-use Rattle.std.proofs.lemmas.List.Elements.{All-weaker}
-use Rattle.vt_events.specs.Calls.{PartsView, bytes_of, held_of, kind_of, numbers_of}
+use Rattle.vt_events.specs.Calls.{PartsView, bytes_of, held_of, kind_of, numbers_of, parts_of}
 use Rattle.vt_events.specs.Kinds.{blank, call_of, name_of, takes}
 use Rattle.vt_events.specs.Plain.{plain_event}
 use Rattle.vt_events.specs.declared.event.Event.{Event}
 use Rattle.vt_events.specs.declared.kind.Kind.{Kind}
-use Rattle.vt_events.proofs.Calls.{IsOfKind, held-if, held_if, holds, is_made, kind_once, of_kind, parts-plain, same_call, takes_held}
+use Rattle.vt_events.proofs.Calls.{IsOfKind, held-if, held_if, holds, is_made, kind_once, of_kind, same_call, takes_held}
 use Rattle.vt_journal.specs.Cut.{words_of_text}
 use Rattle.vt_journal.specs.Hex.{hex_text}
-use Rattle.vt_journal.specs.Words.{IsFit, Spells, event_words, held_words}
-use Rattle.vt_journal.proofs.Clear.{are_clear, are_clear-append, are_clear_decimals, are_clear_held, is_clear_name, words_of_text-joined_by_blanks}
+use Rattle.vt_journal.specs.Taking.{Finds}
+use Rattle.vt_journal.specs.Words.{IsFit, IsFitCall, Spells, event_words, held_words, joined_by_blanks}
+use Rattle.vt_journal.proofs.Clear.{are_clear-event, wide}
+use Rattle.vt_journal.proofs.OneSpelling.{OneSpelling, cut_words}
 use Rattle.vt_journal.proofs.Pairs.{hex_injective}
-
-below_wide : (n : ℕ) → n < 2 ^ 16 → n < 2 ^ 64
-below_wide n below = omega (arith, below)
-
--- numbers of 16 bits have 64
-pub wide : (ns : List ℕ) → All (λ n. n < 2 ^ 16) ns → All (λ n. n < 2 ^ 64) ns
-wide ns fit = All-weaker (λ n. n < 2 ^ 16) (λ n. n < 2 ^ 64) below_wide ns fit
-
--- the words of the text that spells a call
-pub cut_parts : (text : List ℕ) (e : Event) → Spells text e → words_of_text text ≡ event_words e
-cut_parts text e s =
-    let others : List (List ℕ) = map decimal (numbers_of e) ++ held_words (held_of e) in
-    let are : are_clear others ≡ true =
-    are_clear-append (map decimal (numbers_of e)) (held_words (held_of e))
-    (are_clear_decimals (numbers_of e) (wide (numbers_of e) s.fit.numbers))
-    (are_clear_held (held_of e)) in
-    ap words_of_text (sym s.spelled) ∙ words_of_text-joined_by_blanks (name_of (kind_of e)) others (is_clear_name (kind_of e)) are
 
 -- the first of them is the name of a kind
 pub named_kind : (e : Event) (rest : List (List ℕ))
@@ -133,9 +115,9 @@ takes_all words u v w k ns b held e rest is named numbers bytes many same fit_b 
     ∙ (kind_is words u k e rest is named).kind.takes
 
 -- words are one call and the words after it
-pub event_once : (d e : Event) (u v : List (List ℕ)) → IsFit d → IsFit e → plain_event d ≡ d
-    → plain_event e ≡ e → event_words d ++ u ≡ event_words e ++ v → (d ≡ e) × (u ≡ v)
-event_once d e u v fit_d fit_e plain_d plain_e same =
+pub event_once : (d e : Event) (u v : List (List ℕ)) → IsFitCall d → IsFitCall e
+    → event_words d ++ u ≡ event_words e ++ v → (d ≡ e) × (u ≡ v)
+event_once d e u v fit_d fit_e same =
     let name : name_of (kind_of d) ≡ name_of (kind_of e) = cc in
     let kind = kind_once (kind_of d) (kind_of e) name in
     let like = subst (λ k. IsOfKind k d) kind (of_kind d) in
@@ -148,29 +130,48 @@ event_once d e u v fit_d fit_e plain_d plain_e same =
     ∙ others
     ∙ append_assoc (map decimal (numbers_of e)) (held_words (held_of e)) v) in
     let numbers =
-    decimals_injective (numbers_of d) (numbers_of e) (wide (numbers_of d) fit_d.numbers)
-    (wide (numbers_of e) fit_e.numbers) both.0 in
+    decimals_injective (numbers_of d) (numbers_of e) (wide (numbers_of d) fit_d.0.numbers)
+    (wide (numbers_of e) fit_e.0.numbers) both.0 in
     let here : held_of d ≡ held_if (holds e) (bytes_of d) =
     held-if d ∙ ap (λ h. held_if h (bytes_of d)) (like.holds ∙ sym other.holds) in
     let held =
-    held_injective (holds e) (bytes_of d) (bytes_of e) u v (fit_bytes (held_of d) fit_d.bytes)
-    (fit_bytes (held_of e) fit_e.bytes)
+    held_injective (holds e) (bytes_of d) (bytes_of e) u v (fit_bytes (held_of d) fit_d.0.bytes)
+    (fit_bytes (held_of e) fit_e.0.bytes)
     (ap (λ held. held_words held ++ u) (sym here)
     ∙ both.1
     ∙ ap (λ held. held_words held ++ v) (held-if e)) in
-    (same_call d e plain_d plain_e kind numbers (here ∙ held.0 ∙ sym (held-if e)), held.1)
+    (same_call d e fit_d.1 fit_e.1 kind numbers (here ∙ held.0 ∙ sym (held-if e)), held.1)
+
+pub event_spelling : OneSpelling event_words IsFitCall
+event_spelling = record { clear = λ e fit. are_clear-event e fit.0; once = event_once }
+
+-- the words of the text that spells a call
+pub cut_parts : (text : List ℕ) (e : Event) → Spells text e → words_of_text text ≡ event_words e
+cut_parts text e s = cut_words event_spelling text e (s.fit, s.plain) s.spelled
 
 -- one text spells one call
 pub spelled_once : (text : List ℕ) (d e : Event) → Spells text d → Spells text e → d ≡ e
 spelled_once text d e sd se =
-    (event_once d e [] [] sd.fit se.fit sd.plain se.plain
+    (event_once d e [] [] (sd.fit, sd.plain) (se.fit, se.plain)
     (ap (λ words. words ++ []) (sym (cut_parts text d sd) ∙ cut_parts text e se))).0
+
+-- the call that was found in a text is the one that the text spells
+pub spelled : (text : List ℕ) (e : Event) → IsFitCall e → joined_by_blanks (event_words e) ≡ text → Spells text e
+spelled text e fit is = record { fit = fit.0; plain = fit.1; spelled = is }
+
+pub found_spells : (text : List ℕ) (r : Option Event)
+    → Finds (λ e. joined_by_blanks (event_words e)) IsFitCall text r → IfSome r IsFitCall
+    → IfSome r (Spells text) × IfNone r ((e : Event) → ¬ Spells text e)
+    × IfSome r (λ e. (other : Event) → Spells text other → other ≡ e)
+found_spells text (Some e) is fit =
+    let spells = spelled text e fit is in
+    (spells, tt, λ other s. spelled_once text other e s spells)
+found_spells text None none fit = (tt, λ e s. none e (s.fit, s.plain) s.spelled, tt)
 
 -- the call made of the kind, numbers and bytes that were read has these words
 pub record IsRead (words : List (List ℕ)) (e : Event) (rest : List (List ℕ)) : Type 0 where
   pub parts : words ≡ event_words e ++ rest
-  pub fit : IsFit e
-  pub plain : plain_event e ≡ e
+  pub fit : IsFitCall e
 
 pub call_is : (words u v w : List (List ℕ)) (k : Kind) (ns b : List ℕ) (held : Bool)
     → words ≡ name_of k ∷ u → u ≡ map decimal ns ++ v
@@ -187,13 +188,15 @@ call_is words u v w k ns b held name numbers bytes many same few fit_n fit_b =
           ∙ ap (λ rest. name_of k ∷ rest) (numbers ∙ ap (λ rest. map decimal ns ++ rest) bytes)
           ∙ sym (ap (λ rest. name_of k ∷ rest) (append_assoc (map decimal ns) (held_words (held_if held b)) w))
           ∙ sym (λ j. name_of (is.kind j) ∷ ((map decimal (is.numbers j) ++ held_words (here j)) ++ w));
-      fit = record {
-        numbers = subst (All (λ n. n < 2 ^ 16)) (sym is.numbers) fit_n;
-        bytes =
-            subst (λ held. IfSome held (λ bytes. All (λ x. x < 2 ^ 8) bytes)) (sym here)
-            (fit_if held b fit_b);
-      };
-      plain = is.plain;
+      fit = (
+        record {
+          numbers = subst (All (λ n. n < 2 ^ 16)) (sym is.numbers) fit_n;
+          bytes =
+              subst (λ held. IfSome held (λ bytes. All (λ x. x < 2 ^ 8) bytes)) (sym here)
+              (fit_if held b fit_b);
+        },
+        is.plain,
+      );
     }
   where
     fit_if : (held : Bool) (b : List ℕ) → All (λ x. x < 2 ^ 8) b
@@ -202,27 +205,12 @@ call_is words u v w k ns b held name numbers bytes many same few fit_n fit_b =
     fit_if false b fit = tt
 
 -- a call without room is fit if its numbers and its bytes are
-pub fit_meant : (e : Event) → All (λ n. n < 2 ^ 16) (numbers_of e)
+pub fit_meant : (e : Event) → parts_of (plain_event e) ≡ parts_of e → All (λ n. n < 2 ^ 16) (numbers_of e)
     → IfSome (held_of e) (λ bytes. All (λ b. b < 2 ^ 8) bytes) → IsFit (plain_event e)
-fit_meant e numbers held =
-    let same = parts-plain e in
-    record {
-      numbers =
-          subst (All (λ n. n < 2 ^ 16)) (sym (ap (λ (p : PartsView). p.numbers) same)) numbers;
-      bytes =
-          subst (λ held. IfSome held (λ bytes. All (λ b. b < 2 ^ 8) bytes))
-          (sym (ap (λ (p : PartsView). p.held) same)) held;
-    }
-
--- if there is a next word some are left, and otherwise none
-pub some_next : (r : Option (Bor (List ℕ))) (old new : List (List ℕ))
-    → MatchOption r ((old ≡ []) × (new ≡ [])) (λ word. old ≡ word.now ∷ new)
-    → is_some r ≡ true → old ≡ [] → ⊥
-some_next (Some word) old new is some none = cc
-some_next None old new is some none = cc
-
-pub none_next : (r : Option (Bor (List ℕ))) (old new : List (List ℕ))
-    → MatchOption r ((old ≡ []) × (new ≡ [])) (λ word. old ≡ word.now ∷ new)
-    → is_some r ≡ false → old ≡ []
-none_next (Some word) old new is none = cc
-none_next None old new is none = is.0
+fit_meant e same numbers held = record {
+  numbers =
+      subst (All (λ n. n < 2 ^ 16)) (sym (ap (λ (p : PartsView). p.numbers) same)) numbers;
+  bytes =
+      subst (λ held. IfSome held (λ bytes. All (λ b. b < 2 ^ 8) bytes))
+      (sym (ap (λ (p : PartsView). p.held) same)) held;
+}

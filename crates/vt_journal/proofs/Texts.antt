@@ -1,8 +1,8 @@
 -- Texts that grow, piece by piece.
-use Rattle.std.proofs.Common.{◌≡◌, ℕ, ◌≤◌, ◌++◌, Result, Ok, Err, List, [], length, take, arith, sym, ap, ◌∙◌}
-use Rattle.std.specs.Prelude.{OnErr, OnOk}
+use Rattle.std.proofs.Common.{◌≡◌, ℕ, ◌≤◌, ◌++◌, List, [], length, take, arith, sym, ap, ◌∙◌}
 use Rattle.std.proofs.Math.Seq.{take-append_seam}
 use Rattle.std.proofs.lemmas.List.{append-nil, take-take, length-take}
+use Rattle.vt_base.specs.Bytes.{Text}
 use Rattle.vt_journal.specs.Text.{Begins}
 
 -- a text with more bytes after it
@@ -10,8 +10,8 @@ pub begins_more : (a b more : List ℕ) → b ≡ a ++ more → Begins a b
 begins_more a b more is = record { front = ap (take (length a)) is ∙ take-append_seam a more }
 
 -- a text begins with itself
-pub begins_same : (a b : List ℕ) → b ≡ a → Begins a b
-begins_same a b is = begins_more a b [] (is ∙ sym (append-nil a))
+pub begins_same : (a b : Text) → b ≡ a → Begins a.bytes b.bytes
+begins_same a b is = begins_more a.bytes b.bytes [] (ap (λ (t : Text). t.bytes) is ∙ sym (append-nil a.bytes))
 
 -- if a text begins with a second one, and that with a third, the first begins with the third
 pub begins_after : (a b c : List ℕ) → Begins a b → Begins b c → Begins a c
@@ -24,9 +24,3 @@ begins_after a b c first then =
           ∙ ap (take (length a)) then.front
           ∙ first.front;
     }
-
--- after a call that adds a piece or leaves the text unchanged, the text begins with the earlier one
-pub begins_either : {T E : Type 0} (r : Result T E) (a b more : List ℕ) → OnOk r (b ≡ a ++ more)
-    → OnErr r (b ≡ a) → Begins a b
-begins_either (Ok x) a b more ok err = begins_more a b more ok
-begins_either (Err e) a b more ok err = begins_same a b err

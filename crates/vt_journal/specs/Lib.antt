@@ -8,5 +8,6 @@ pub mod Log
 pub mod Replies
 pub mod Room
 pub mod Says
+pub mod Taking
 pub mod Text
 pub mod Words

@@ -1,10 +1,21 @@
 -- Texts that grow.
-use Rattle.std.specs.Prelude.{◌≡◌, ℕ, List, ◌∷◌, length, take}
+use Rattle.std.specs.Prelude.{◌≡◌, ℕ, List, ◌∷◌, ◌++◌, Result, Ok, Err, length, take}
 use Rattle.std.specs.List.{flat_map}
+use Rattle.vt_base.specs.Bytes.{Text}
 
 -- a text begins with another one
 pub record Begins (before text : List ℕ) : Type 0 where
   pub front : take (length before) text ≡ before
+
+-- the piece is added; if memory runs out, the text and its room are unchanged
+abbrev pub Adds : {T E : Type 0} → List ℕ → Text → Text → Result T E → Type 0
+Adds piece old new (Ok done) = new.bytes ≡ old.bytes ++ piece
+Adds piece old new (Err e) = new ≡ old
+
+-- the piece is added; if memory runs out, a part of it may be
+abbrev pub AddsPart : {T E : Type 0} → List ℕ → Text → Text → Result T E → Type 0
+AddsPart piece old new (Ok done) = new.bytes ≡ old.bytes ++ piece
+AddsPart piece old new (Err e) = Begins old.bytes new.bytes
 
 -- words, with a blank before each
 abbrev pub blank_before_each : List (List ℕ) → List ℕ

@@ -12,6 +12,10 @@ use Rattle.vt_events.specs.declared.reply.Reply.TheVariants as reply
 use Rattle.vt_journal.specs.Cut.{words_of_text}
 use Rattle.vt_journal.specs.Hex.{hex_text}
 
+-- the word of a number
+abbrev pub one_number : ℕ → List (List ℕ)
+one_number n = decimal n ∷ []
+
 -- the word of the bytes that a call holds, if it holds any
 abbrev pub held_words : Option (List ℕ) → List (List ℕ)
 held_words None = []
@@ -46,6 +50,10 @@ joined_by_blanks words = join_with_byte 0x20 words
 pub record IsFit (e : Event) : Type 0 where
   pub numbers : All (λ n. n < 2 ^ 16) (numbers_of e)
   pub bytes : IfSome (held_of e) (λ bytes. All (λ b. b < 2 ^ 8) bytes)
+
+-- and they have no room
+abbrev pub IsFitCall : Event → Type 0
+IsFitCall e = IsFit e × (plain_event e ≡ e)
 
 -- the text is the one spelling of the call, which is fit and has no room
 pub record Spells (text : List ℕ) (e : Event) : Type 0 where

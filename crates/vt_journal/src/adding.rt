@@ -1,8 +1,8 @@
 //! Adds words to a text, with room for them.
-ghost use Rattle.std.specs.Prelude.{◌≡◌, ◌<◌, ◌≤◌, ◌^◌, [], ◌∷◌, ◌++◌, decimal, map, OnOk, OnErr};
+ghost use Rattle.std.specs.Prelude.{◌≡◌, ◌<◌, ◌≤◌, ◌^◌, [], ◌∷◌, decimal, map, OnOk, OnErr};
 ghost use Rattle.std.specs.List.{All};
 ghost use Rattle.vt_journal.specs.Hex.{hex_text};
-ghost use Rattle.vt_journal.specs.Text.{Begins, blank_before_each};
+ghost use Rattle.vt_journal.specs.Text.{Adds, AddsPart, blank_before_each};
 
 use crate::add_hex;
 use itoa::Buffer;
@@ -38,9 +38,7 @@ fn take_room(alloc: Global, text: &mut Bytes, n: usize) -> Result<(), NoMemory>
 /// Adds the bytes.
 #[inline(always)]
 pub fn add(alloc: Global, text: &mut Bytes, b: &[u8]) -> Result<(), NoMemory>
-    ensures ok { OnOk result (text.new.bytes ≡ text.old.bytes ++ b.now) }
-    ensures err { OnErr result (text.new.bytes ≡ text.old.bytes) }
-    ensures room { OnErr result (text.new.room ≡ text.old.room) }
+    ensures { Adds b.now text.old text.new result }
 {
     make_room(alloc, text, b.len())?;
     text.append(b);
@@ -48,10 +46,8 @@ pub fn add(alloc: Global, text: &mut Bytes, b: &[u8]) -> Result<(), NoMemory>
 }
 
 /// Adds the number.
-pub(crate) fn add_number(alloc: Global, text: &mut Bytes, n: u64) -> Result<(), NoMemory>
-    ensures ok { OnOk result (text.new.bytes ≡ text.old.bytes ++ decimal n) }
-    ensures err { OnErr result (text.new.bytes ≡ text.old.bytes) }
-    ensures room { OnErr result (text.new.room ≡ text.old.room) }
+pub fn add_number(alloc: Global, text: &mut Bytes, n: u64) -> Result<(), NoMemory>
+    ensures { Adds (decimal n) text.old text.new result }
 {
     let mut buffer = Buffer::new();
     add(alloc, text, buffer.format(n).as_bytes())
@@ -59,9 +55,7 @@ pub(crate) fn add_number(alloc: Global, text: &mut Bytes, n: u64) -> Result<(), 
 
 /// Adds a blank and the word.
 pub(crate) fn add_word(alloc: Global, text: &mut Bytes, word: &[u8]) -> Result<(), NoMemory>
-    ensures ok { OnOk result (text.new.bytes ≡ text.old.bytes ++ 0x20 ∷ word.now) }
-    ensures err { OnErr result (text.new.bytes ≡ text.old.bytes) }
-    ensures room { OnErr result (text.new.room ≡ text.old.room) }
+    ensures { Adds (0x20 ∷ word.now) text.old text.new result }
 {
     make_room(alloc, text, 1 + word.len())?;
     text.push(b' ');
@@ -71,50 +65,62 @@ pub(crate) fn add_word(alloc: Global, text: &mut Bytes, word: &[u8]) -> Result<(
 
 /// Adds the end of a line.
 pub(crate) fn add_end(alloc: Global, text: &mut Bytes) -> Result<(), NoMemory>
-    ensures ok { OnOk result (text.new.bytes ≡ text.old.bytes ++ 0x0A ∷ []) }
-    ensures err { OnErr result (text.new.bytes ≡ text.old.bytes) }
+    ensures { Adds (0x0A ∷ []) text.old text.new result }
 {
     add(alloc, text, b"\n")
 }
 
 /// Adds a blank and the number in decimal.
 pub fn add_next(alloc: Global, text: &mut Bytes, n: u64) -> Result<(), NoMemory>
-    ensures ok { OnOk result (text.new.bytes ≡ text.old.bytes ++ 0x20 ∷ decimal n) }
-    ensures err { OnErr result (text.new.bytes ≡ text.old.bytes) }
-    ensures room { OnErr result (text.new.room ≡ text.old.room) }
+    ensures { Adds (0x20 ∷ decimal n) text.old text.new result }
+{
+    add_lettered(alloc, text, b' ', n)
+}
+
+/// Adds the letter and the number in decimal.
+#[inline(always)]
+pub(crate) fn add_lettered(
+    alloc: Global,
+    text: &mut Bytes,
+    letter: u8,
+    n: u64,
+) -> Result<(), NoMemory>
+    ensures { Adds (letter ∷ decimal n) text.old text.new result }
 {
     if n < 10 {
-        return add(alloc, text, &[b' ', b'0' + n as u8]);
+        return add(alloc, text, &[letter, b'0' + n as u8]);
     }
     if n < 100 {
         return add(
             alloc,
             text,
-            &[b' ', b'0' + (n / 10) as u8, b'0' + (n % 10) as u8],
+            &[letter, b'0' + (n / 10) as u8, b'0' + (n % 10) as u8],
         );
     }
     if n < 1_000 {
         let (high, low) = (n / 100, n % 100);
         let digits = [
-            b' ',
+            letter,
             b'0' + high as u8,
             b'0' + (low / 10) as u8,
             b'0' + (low % 10) as u8,
         ];
         return add(alloc, text, &digits);
     }
-    add_long(alloc, text, n)
+    add_long(alloc, text, letter, n)
 }
 
-// Adds a blank and a number of any length.
+// Adds the letter and a number of any length.
 #[inline(never)]
-fn add_long(alloc: Global, text: &mut Bytes, n: u64) -> Result<(), NoMemory>
-    ensures ok { OnOk result (text.new.bytes ≡ text.old.bytes ++ 0x20 ∷ decimal n) }
-    ensures err { OnErr result (text.new.bytes ≡ text.old.bytes) }
-    ensures room { OnErr result (text.new.room ≡ text.old.room) }
+fn add_long(alloc: Global, text: &mut Bytes, letter: u8, n: u64) -> Result<(), NoMemory>
+    ensures { Adds (letter ∷ decimal n) text.old text.new result }
 {
     let mut buffer = Buffer::new();
-    add_word(alloc, text, buffer.format(n).as_bytes())
+    let digits = buffer.format(n).as_bytes();
+    make_room(alloc, text, 1 + digits.len())?;
+    text.push(letter);
+    text.append(digits);
+    Ok(())
 }
 
 /// Adds the name and the numbers, with a blank before each.
@@ -124,9 +130,8 @@ pub(crate) fn add_named(
     name: &[u8],
     numbers: &[u16],
 ) -> Result<(), NoMemory>
-    ensures ok { OnOk result
-        (text.new.bytes ≡ text.old.bytes ++ blank_before_each (name.now ∷ map decimal numbers.now)) }
-    ensures kept { Begins text.old.bytes text.new.bytes }
+    ensures adds { AddsPart (blank_before_each (name.now ∷ map decimal numbers.now))
+        text.old text.new result }
     ensures fit { All (λ n. n < 2 ^ 16) numbers.now }
 {
     add_word(alloc, text, name)?;
@@ -138,8 +143,7 @@ pub(crate) fn add_named(
 
 /// Adds a blank and the bytes in hexadecimal.
 pub(crate) fn add_bytes(alloc: Global, text: &mut Bytes, b: &[u8]) -> Result<(), NoMemory>
-    ensures ok { OnOk result (text.new.bytes ≡ text.old.bytes ++ 0x20 ∷ hex_text b.now) }
-    ensures kept { Begins text.old.bytes text.new.bytes }
+    ensures adds { AddsPart (0x20 ∷ hex_text b.now) text.old text.new result }
     ensures fit { All (λ x. x < 2 ^ 8) b.now }
 {
     add(alloc, text, b" ")?;

@@ -1,8 +1,8 @@
 //! Entries read from their lines.
-ghost use Rattle.std.specs.Prelude.{◌≡◌, ◌≢◌, ℕ, List, ◌∷◌, ◌++◌, IfOk, IfSome, IfNone};
-ghost use Rattle.vt_events.specs.declared.entry.Entry.{Entry};
+ghost use Rattle.std.specs.Prelude.{IfOk, IfSome};
 ghost use Rattle.vt_journal.specs.Journal.{entry_words};
 ghost use Rattle.vt_journal.specs.Says.{IsFitEntry};
+ghost use Rattle.vt_journal.specs.Taking.{Finds, Takes};
 ghost use Rattle.vt_journal.specs.Words.{joined_by_blanks};
 
 use crate::callers::take_caller;
@@ -16,29 +16,19 @@ use vt_events::Entry;
 
 /// The entry that the line of this version spells.
 pub(crate) fn read_entry(alloc: Global, line: &[u8], version: u8) -> Result<Option<Entry>, NoMemory>
-    ensures found { IfOk result
-        (λ found. IfSome found (λ e. joined_by_blanks (entry_words version e) ≡ line.now)) }
+    ensures finds { IfOk result
+        (Finds (λ e. joined_by_blanks (entry_words version e)) (IsFitEntry version) line.now) }
     ensures fit { IfOk result (λ found. IfSome found (IsFitEntry version)) }
-    ensures none { IfOk result (λ found. IfNone found
-        ((e : Entry) → IsFitEntry version e → joined_by_blanks (entry_words version e) ≢ line.now)) }
 {
     let mut words = Words::of(line);
-    let Some(entry) = take_entry(alloc, &mut words, version)? else {
-        return Ok(None);
-    };
-    if words.next().is_some() {
-        return Ok(None);
-    }
-    Ok(Some(entry))
+    let entry = take_entry(alloc, &mut words, version)?;
+    Ok(words.if_none_left(entry))
 }
 
 // The entry that the next words spell.
 fn take_entry(alloc: Global, words: &mut Words, version: u8) -> Result<Option<Entry>, NoMemory>
-    ensures found { IfOk result
-        (λ found. IfSome found (λ e. words.old ≡ entry_words version e ++ words.new)) }
+    ensures takes { IfOk result (Takes (entry_words version) (IsFitEntry version) words.old words.new) }
     ensures fit { IfOk result (λ found. IfSome found (IsFitEntry version)) }
-    ensures none { IfOk result (λ found. IfNone found
-        ((e : Entry) (rest : List (List ℕ)) → IsFitEntry version e → words.old ≢ entry_words version e ++ rest)) }
 {
     let Some(caller) = take_caller(words, version) else {
         return Ok(None);

@@ -29,7 +29,7 @@ mod tail;
 mod tail_lines;
 mod words;
 
-pub use adding::{add, add_next};
+pub use adding::{add, add_next, add_number};
 pub use callers::{add_caller, are_numbered};
 pub use cut::{CutLine, cut_line};
 pub use entries::Entries;

@@ -1,5 +1,5 @@
 //! The text of a journal, in either version.
-ghost use Rattle.std.specs.Prelude.{◌≡◌, ◌<◌, ◌≤◌, ◌^◌, ◌∷◌, ◌++◌, decimal, map, option_copied, IfSome, OnOk, OnErr};
+ghost use Rattle.std.specs.Prelude.{◌≡◌, ◌<◌, ◌≤◌, ◌^◌, ◌∷◌, ◌++◌, decimal, map, option_copied, IfSome, OnOk};
 ghost use Rattle.std.specs.List.{All};
 ghost use Rattle.vt_events.specs.Plain.{plain_entry, plain_event, plain_reply};
 ghost use Rattle.vt_base.specs.Limits.{processes};
@@ -7,7 +7,7 @@ ghost use Rattle.vt_journal.specs.Callers.{IsVersion};
 ghost use Rattle.vt_journal.specs.Journal.{entry_words, first_words, journal_text, line_text, tail_words};
 ghost use Rattle.vt_journal.specs.Replies.{IsFitReply};
 ghost use Rattle.vt_journal.specs.Says.{IsFitEntry, IsFitTail};
-ghost use Rattle.vt_journal.specs.Text.{Begins, blank_before_each};
+ghost use Rattle.vt_journal.specs.Text.{Adds, AddsPart, blank_before_each};
 ghost use Rattle.vt_journal.specs.Words.{IsFit, event_words, held_words, reply_words};
 
 use crate::adding::{add, add_bytes, add_end, add_named, add_next, make_room};
@@ -15,7 +15,7 @@ use crate::callers::add_caller;
 use crate::{Full, Tail};
 use std::alloc::Global;
 use vt_base::{Bytes, NoMemory};
-use vt_events::{Entry, Event, Parts, Reply};
+use vt_events::{Entry, Event, Parts, Reply, parts_make_the_call};
 
 /// Adds the journal text of the entries and their end, in this version. The text can be read again. It is made as a
 /// text of its own first, so that `rest` and its room are unchanged if memory runs out.
@@ -28,9 +28,7 @@ pub fn print(
 ) -> Result<(), NoMemory>
     requires version { IsVersion version }
     requires callers { version ≡ 1 → All (λ entry. entry.caller ≤ processes) entries.now }
-    ensures ok { OnOk result
-        (rest.new.bytes ≡ rest.old.bytes ++ journal_text version entries.now end.now) }
-    ensures err { OnErr result (rest.new ≡ rest.old) }
+    ensures adds { Adds (journal_text version entries.now end.now) rest.old rest.new result }
     ensures fit { OnOk result (All (IsFitEntry version) (map plain_entry entries.now)) }
     ensures end { OnOk result (IsFitTail end.now) }
 {
@@ -56,7 +54,6 @@ fn add_lines(
     requires { version ≡ 1 → All (λ entry. entry.caller ≤ processes) entries.now }
     ensures ok { OnOk result
         (rest.new.bytes ≡ rest.old.bytes ++ journal_text version entries.now end.now) }
-    ensures kept { Begins rest.old.bytes rest.new.bytes }
     ensures fit { OnOk result (All (IsFitEntry version) (map plain_entry entries.now)) }
     ensures end { OnOk result (IsFitTail end.now) }
 {
@@ -69,9 +66,7 @@ fn add_lines(
 }
 
 fn add_first(alloc: Global, text: &mut Bytes, version: u8) -> Result<(), NoMemory>
-    ensures ok { OnOk result
-        (text.new.bytes ≡ text.old.bytes ++ line_text (first_words version)) }
-    ensures kept { Begins text.old.bytes text.new.bytes }
+    ensures { OnOk result (text.new.bytes ≡ text.old.bytes ++ line_text (first_words version)) }
 {
     add_numbered(alloc, text, b"%journal", &[u64::from(version)])
 }
@@ -83,22 +78,21 @@ fn add_numbered(
     name: &[u8],
     numbers: &[u64],
 ) -> Result<(), NoMemory>
-    ensures ok { OnOk result
+    ensures { OnOk result
         (text.new.bytes ≡ text.old.bytes ++ line_text (name.now ∷ map decimal numbers.now)) }
-    ensures kept { Begins text.old.bytes text.new.bytes }
 {
     add(alloc, text, name)?;
     for n in numbers {
         add_next(alloc, text, *n)?;
     }
-    add_end(alloc, text)
+    add_end(alloc, text)?;
+    Ok(())
 }
 
 fn add_entry(alloc: Global, text: &mut Bytes, version: u8, entry: &Entry) -> Result<(), NoMemory>
     requires { version ≡ 1 → entry.now.caller ≤ processes }
     ensures ok { OnOk result
         (text.new.bytes ≡ text.old.bytes ++ line_text (entry_words version entry.now)) }
-    ensures kept { Begins text.old.bytes text.new.bytes }
     ensures fit { OnOk result (IsFitEntry version (plain_entry entry.now)) }
 {
     add_caller(alloc, text, entry.caller, version)?;
@@ -112,7 +106,6 @@ fn add_entry(alloc: Global, text: &mut Bytes, version: u8, entry: &Entry) -> Res
 
 fn add_tail(alloc: Global, text: &mut Bytes, end: &Tail) -> Result<(), NoMemory>
     ensures ok { OnOk result (text.new.bytes ≡ text.old.bytes ++ line_text (tail_words end.now)) }
-    ensures kept { Begins text.old.bytes text.new.bytes }
     ensures fit { OnOk result (IsFitTail end.now) }
 {
     match end {
@@ -134,10 +127,10 @@ fn add_tail(alloc: Global, text: &mut Bytes, end: &Tail) -> Result<(), NoMemory>
 
 /// Adds the words of a call, with a blank before each. They can be read again.
 pub fn add_event(alloc: Global, text: &mut Bytes, e: &Event) -> Result<(), NoMemory>
-    ensures ok { OnOk result (text.new.bytes ≡ text.old.bytes ++ blank_before_each (event_words e.now)) }
-    ensures kept { Begins text.old.bytes text.new.bytes }
+    ensures adds { AddsPart (blank_before_each (event_words e.now)) text.old text.new result }
     ensures fit { OnOk result (IsFit (plain_event e.now)) }
 {
+    parts_make_the_call();
     let parts = Parts::of(e);
     add_named(alloc, text, parts.kind().name(), parts.numbers())?;
     add_held(alloc, text, parts.held())?;
@@ -146,9 +139,8 @@ pub fn add_event(alloc: Global, text: &mut Bytes, e: &Event) -> Result<(), NoMem
 
 // Adds a blank and the bytes that a call holds, if it holds any.
 fn add_held(alloc: Global, text: &mut Bytes, held: Option<&[u8]>) -> Result<(), NoMemory>
-    ensures ok { OnOk result
-        (text.new.bytes ≡ text.old.bytes ++ blank_before_each (held_words (option_copied held.entry))) }
-    ensures kept { Begins text.old.bytes text.new.bytes }
+    ensures adds { AddsPart (blank_before_each (held_words (option_copied held.entry)))
+        text.old text.new result }
     ensures fit { IfSome (option_copied held.entry) (λ bytes. All (λ b. b < 2 ^ 8) bytes) }
 {
     match held {
@@ -159,23 +151,21 @@ fn add_held(alloc: Global, text: &mut Bytes, held: Option<&[u8]>) -> Result<(), 
 
 /// Adds the words of an answer, with a blank before each. They can be read again.
 pub fn add_reply(alloc: Global, text: &mut Bytes, r: &Reply) -> Result<(), NoMemory>
-    ensures ok { OnOk result (text.new.bytes ≡ text.old.bytes ++ blank_before_each (reply_words r.now)) }
-    ensures kept { Begins text.old.bytes text.new.bytes }
+    ensures adds { AddsPart (blank_before_each (reply_words r.now)) text.old text.new result }
     ensures fit { OnOk result (IsFitReply (plain_reply r.now)) }
 {
     match r {
-        Reply::Done => add(alloc, text, b" ok"),
-        Reply::Num(n) => {
-            add(alloc, text, b" num")?;
-            add_next(alloc, text, u64::from(*n))
-        }
+        Reply::Done => add_name(alloc, text, b" ok"),
+        Reply::Num(n) => add_one(alloc, text, b" num", u64::from(*n)),
         Reply::State { front, mask } => {
             add_named(alloc, text, b"state", &[u16::from(*front)])?;
-            add_next(alloc, text, *mask)
+            add_next(alloc, text, *mask)?;
+            Ok(())
         }
         Reply::Text(b) => {
-            add(alloc, text, b" bytes")?;
-            add_bytes(alloc, text, b.as_slice())
+            add_name(alloc, text, b" bytes")?;
+            add_bytes(alloc, text, b.as_slice())?;
+            Ok(())
         }
         Reply::Mode(m) => {
             let numbers = [m.mode, m.waitv, m.relsig, m.acqsig, m.frsig];
@@ -184,14 +174,27 @@ pub fn add_reply(alloc: Global, text: &mut Bytes, r: &Reply) -> Result<(), NoMem
         Reply::Act { kind, value } => {
             add_named(alloc, text, b"act", &[u16::from(*kind), *value])
         }
-        Reply::Wait => add(alloc, text, b" wait"),
-        Reply::Sigs(signals) => {
-            add(alloc, text, b" sigs")?;
-            add_next(alloc, text, signals.bits())
-        }
-        Reply::Err(errno) => {
-            add(alloc, text, b" err")?;
-            add_next(alloc, text, u64::from(errno.number()))
-        }
+        Reply::Wait => add_name(alloc, text, b" wait"),
+        Reply::Sigs(signals) => add_one(alloc, text, b" sigs", signals.bits()),
+        Reply::Err(errno) => add_one(alloc, text, b" err", u64::from(errno.number())),
     }
+}
+
+// Adds the name of an answer.
+#[inline(always)]
+fn add_name(alloc: Global, text: &mut Bytes, name: &[u8]) -> Result<(), NoMemory>
+    ensures { AddsPart name.now text.old text.new result }
+{
+    add(alloc, text, name)?;
+    Ok(())
+}
+
+// Adds the name of an answer, and a blank and its number.
+#[inline(always)]
+fn add_one(alloc: Global, text: &mut Bytes, name: &[u8], n: u64) -> Result<(), NoMemory>
+    ensures { AddsPart (name.now ++ 0x20 ∷ decimal n) text.old text.new result }
+{
+    add(alloc, text, name)?;
+    add_next(alloc, text, n)?;
+    Ok(())
 }

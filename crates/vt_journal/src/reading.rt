@@ -1,11 +1,10 @@
 //! Calls read from their words.
-ghost use Rattle.std.specs.Prelude.{◌≡◌, ◌≢◌, ℕ, ◌<◌, ◌^◌, List, ◌∷◌, ◌++◌, Some, None, if◌then◌else◌, IfOk, IfSome, IfNone};
+ghost use Rattle.std.specs.Prelude.{◌≡◌, ◌<◌, ◌^◌, ⊤, [], ◌∷◌, Some, None, option_map, if◌then◌else◌, IfOk, IfSome, IfNone};
 ghost use Rattle.std.specs.List.{All};
 ghost use Rattle.vt_events.specs.Kinds.{name_of};
-ghost use Rattle.vt_events.specs.Plain.{plain_event};
 ghost use Rattle.vt_events.specs.declared.event.Event.{Event};
-ghost use Rattle.vt_events.specs.declared.kind.Kind.{Kind};
-ghost use Rattle.vt_journal.specs.Words.{IsFit, Spells, event_words, held_words};
+ghost use Rattle.vt_journal.specs.Taking.{Takes};
+ghost use Rattle.vt_journal.specs.Words.{IsFitCall, Spells, event_words, held_words};
 
 use crate::hex::parse_hex;
 use crate::numbers::read_numbers;
@@ -22,23 +21,14 @@ pub fn read_event(alloc: Global, words: &[u8]) -> Result<Option<Event>, NoMemory
         (λ found. IfSome found (λ e. (other : Event) → Spells words.now other → other ≡ e)) }
 {
     let mut words = Words::of(words);
-    let Some(event) = take_event(alloc, &mut words)? else {
-        return Ok(None);
-    };
-    if words.next().is_some() {
-        return Ok(None);
-    }
-    Ok(Some(event))
+    let event = take_event(alloc, &mut words)?;
+    Ok(words.if_none_left(event))
 }
 
 /// The call that the next words spell.
 pub(crate) fn take_event(alloc: Global, words: &mut Words) -> Result<Option<Event>, NoMemory>
-    ensures found { IfOk result
-        (λ found. IfSome found (λ e. words.old ≡ event_words e ++ words.new)) }
-    ensures fit { IfOk result (λ found. IfSome found IsFit) }
-    ensures plain { IfOk result (λ found. IfSome found (λ e. plain_event e ≡ e)) }
-    ensures none { IfOk result (λ found. IfNone found
-        ((e : Event) (rest : List (List ℕ)) → IsFit e → words.old ≢ event_words e ++ rest)) }
+    ensures takes { IfOk result (Takes event_words IsFitCall words.old words.new) }
+    ensures fit { IfOk result (λ found. IfSome found IsFitCall) }
 {
     let Some(kind) = read_kind(words) else {
         return Ok(None);
@@ -57,9 +47,7 @@ pub(crate) fn take_event(alloc: Global, words: &mut Words) -> Result<Option<Even
 
 // The next word as the name of a kind.
 fn read_kind(words: &mut Words) -> Option<Kind>
-    ensures found { IfSome result (λ kind. words.old ≡ name_of kind ∷ words.new) }
-    ensures none { IfNone result
-        ((kind : Kind) (rest : List (List ℕ)) → words.old ≢ name_of kind ∷ rest) }
+    ensures { Takes (λ kind. name_of kind ∷ []) (λ _. ⊤) words.old words.new result }
 {
     let name = words.next()?;
     Kind::named(name)
@@ -67,18 +55,17 @@ fn read_kind(words: &mut Words) -> Option<Kind>
 
 /// Takes the next word as bytes in hexadecimal if the call or the answer holds bytes; otherwise takes no word and
 /// returns no bytes.
+#[inline(always)]
 pub(crate) fn read_bytes(
     alloc: Global,
     words: &mut Words,
     holds: bool,
 ) -> Result<Option<Bytes>, NoMemory>
-    ensures found { IfOk result
-        (λ found. IfSome found (λ b. words.old ≡ held_words (if holds then Some b.bytes else None) ++ words.new)) }
+    ensures takes { IfOk result
+        (λ found. Takes (λ bytes. held_words (if holds then Some bytes else None)) (All (λ x. x < 2 ^ 8))
+        words.old words.new (option_map (λ b. b.bytes) found)) }
     ensures fit { IfOk result (λ found. IfSome found (λ b. All (λ x. x < 2 ^ 8) b.bytes)) }
     ensures room { IfOk result (λ found. IfSome found (λ b. b.room ≡ 0)) }
-    ensures none { IfOk result (λ found. IfNone found
-        ((bytes : List ℕ) (rest : List (List ℕ)) → All (λ x. x < 2 ^ 8) bytes
-        → words.old ≢ held_words (if holds then Some bytes else None) ++ rest)) }
 {
     if !holds {
         return Ok(Some(Bytes::new(alloc)));

@@ -1,9 +1,8 @@
 //! Answers read from their words.
-ghost use Rattle.std.specs.Prelude.{◌≡◌, ◌≢◌, ℕ, List, ◌∷◌, ◌++◌, IfOk, IfSome, IfNone};
-ghost use Rattle.vt_events.specs.declared.reply.Reply.{Reply};
+ghost use Rattle.std.specs.Prelude.{⊤, [], ◌∷◌, IfOk, IfSome};
 ghost use Rattle.vt_journal.specs.Replies.{IsFitReply, reply_name};
+ghost use Rattle.vt_journal.specs.Taking.{Takes};
 ghost use Rattle.vt_journal.specs.Words.{reply_words};
-ghost use Rattle.vt_journal.specs.declared.reply_kind.ReplyKind.{ReplyKind};
 
 use crate::numbers::take_numbers;
 use crate::reading::read_bytes;
@@ -15,11 +14,8 @@ use vt_events::Reply;
 
 /// The answer that the next words spell.
 pub(crate) fn take_reply(alloc: Global, words: &mut Words) -> Result<Option<Reply>, NoMemory>
-    ensures found { IfOk result
-        (λ found. IfSome found (λ r. words.old ≡ reply_words r ++ words.new)) }
+    ensures takes { IfOk result (Takes reply_words IsFitReply words.old words.new) }
     ensures fit { IfOk result (λ found. IfSome found IsFitReply) }
-    ensures none { IfOk result (λ found. IfNone found
-        ((r : Reply) (rest : List (List ℕ)) → IsFitReply r → words.old ≢ reply_words r ++ rest)) }
 {
     let Some(kind) = take_kind(words) else {
         return Ok(None);
@@ -35,9 +31,7 @@ pub(crate) fn take_reply(alloc: Global, words: &mut Words) -> Result<Option<Repl
 
 // The next word as the name of a kind.
 fn take_kind(words: &mut Words) -> Option<ReplyKind>
-    ensures found { IfSome result (λ kind. words.old ≡ reply_name kind ∷ words.new) }
-    ensures none { IfNone result
-        ((kind : ReplyKind) (rest : List (List ℕ)) → words.old ≢ reply_name kind ∷ rest) }
+    ensures { Takes (λ kind. reply_name kind ∷ []) (λ _. ⊤) words.old words.new result }
 {
     let name = words.next()?;
     ReplyKind::named(name)

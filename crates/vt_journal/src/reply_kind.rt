@@ -1,6 +1,7 @@
-ghost use Rattle.std.specs.Prelude.{◌≡◌, ◌≢◌, IfSome, IfNone};
+ghost use Rattle.std.specs.Prelude.{◌≡◌, ◌≢◌, ⊤, IfSome, IfNone};
 ghost use Rattle.vt_events.specs.declared.reply.Reply.{Reply};
 ghost use Rattle.vt_journal.specs.Replies.{IsAnswer, Within, kind_of, mosts, reply_holds, reply_name, reply_numbers};
+ghost use Rattle.vt_journal.specs.Taking.{Finds};
 ghost use Rattle.vt_journal.specs.declared.reply_kind.ReplyKind.{ReplyKind};
 
 use vt_base::{Bytes, Errno, SigSet, VtMode};
@@ -29,14 +30,16 @@ pub(crate) enum ReplyKind {
 impl ReplyKind {
     /// The kind of the answers of this name.
     pub(crate) fn named(name: &[u8]) -> Option<ReplyKind>
-        ensures found { IfSome result (λ kind. reply_name kind ≡ name.now) }
-        ensures none { IfNone result ((kind : ReplyKind) → reply_name kind ≢ name.now) }
+        ensures { Finds reply_name (λ _. ⊤) name.now result }
     {
         if name == b"ok".as_slice() {
             return Some(ReplyKind::Done);
         }
         if name == b"num".as_slice() {
             return Some(ReplyKind::Num);
+        }
+        if name == b"sigs".as_slice() {
+            return Some(ReplyKind::Sigs);
         }
         if name == b"state".as_slice() {
             return Some(ReplyKind::State);
@@ -52,9 +55,6 @@ impl ReplyKind {
         }
         if name == b"wait".as_slice() {
             return Some(ReplyKind::Wait);
-        }
-        if name == b"sigs".as_slice() {
-            return Some(ReplyKind::Sigs);
         }
         if name == b"err".as_slice() {
             return Some(ReplyKind::Err);

@@ -1,9 +1,9 @@
 //! Last lines.
-ghost use Rattle.std.specs.Prelude.{◌≡◌, ◌≢◌, ℕ, List, ◌∷◌, ◌++◌, codes, IfSome, IfNone};
+ghost use Rattle.std.specs.Prelude.{◌∷◌, codes, IfSome};
 ghost use Rattle.vt_journal.specs.Journal.{tail_words};
 ghost use Rattle.vt_journal.specs.Says.{IsFitTail};
+ghost use Rattle.vt_journal.specs.Taking.{Finds, Takes};
 ghost use Rattle.vt_journal.specs.Words.{joined_by_blanks};
-ghost use Rattle.vt_journal.specs.declared.tail.Tail.{Tail};
 
 use crate::numbers::take_number;
 use crate::words::Words;
@@ -13,25 +13,18 @@ const LONG: u64 = 4_294_967_295;
 
 /// The end of a journal, from its last line.
 pub(crate) fn read_tail(line: &[u8]) -> Option<Tail>
-    ensures found { IfSome result (λ end. joined_by_blanks (tail_words end) ≡ line.now) }
+    ensures finds { Finds (λ end. joined_by_blanks (tail_words end)) IsFitTail line.now result }
     ensures fit { IfSome result IsFitTail }
-    ensures none { IfNone result
-        ((end : Tail) → IsFitTail end → joined_by_blanks (tail_words end) ≢ line.now) }
 {
     let mut words = Words::of(line);
-    let end = take_tail(&mut words)?;
-    if words.next().is_some() {
-        return None;
-    }
-    Some(end)
+    let end = take_tail(&mut words);
+    words.if_none_left(end)
 }
 
 // The end that the next words spell.
 fn take_tail(words: &mut Words) -> Option<Tail>
-    ensures found { IfSome result (λ end. words.old ≡ tail_words end ++ words.new) }
+    ensures takes { Takes tail_words IsFitTail words.old words.new result }
     ensures fit { IfSome result IsFitTail }
-    ensures none { IfNone result ((end : Tail) (rest : List (List ℕ)) → IsFitTail end
-        → words.old ≢ tail_words end ++ rest) }
 {
     let name = words.next()?;
     if name == b"%end".as_slice() {
@@ -45,10 +38,8 @@ fn take_tail(words: &mut Words) -> Option<Tail>
 
 // The end with the numbers after `%end`.
 fn take_end(words: &mut Words) -> Option<Tail>
-    ensures found { IfSome result (λ end. codes "%end" ∷ words.old ≡ tail_words end ++ words.new) }
+    ensures takes { Takes tail_words IsFitTail (codes "%end" ∷ words.old) words.new result }
     ensures fit { IfSome result IsFitTail }
-    ensures none { IfNone result ((end : Tail) (rest : List (List ℕ)) → IsFitTail end
-        → codes "%end" ∷ words.old ≢ tail_words end ++ rest) }
 {
     let events = take_number(words, LONG)?;
     let bytes = take_number(words, u64::MAX)?;
@@ -60,10 +51,8 @@ fn take_end(words: &mut Words) -> Option<Tail>
 
 // The end with the numbers after `%full`.
 fn take_full(words: &mut Words) -> Option<Tail>
-    ensures found { IfSome result (λ end. codes "%full" ∷ words.old ≡ tail_words end ++ words.new) }
+    ensures takes { Takes tail_words IsFitTail (codes "%full" ∷ words.old) words.new result }
     ensures fit { IfSome result IsFitTail }
-    ensures none { IfNone result ((end : Tail) (rest : List (List ℕ)) → IsFitTail end
-        → codes "%full" ∷ words.old ≢ tail_words end ++ rest) }
 {
     let events = take_number(words, LONG)?;
     let bytes = take_number(words, u64::MAX)?;

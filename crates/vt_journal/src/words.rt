@@ -1,6 +1,7 @@
 ghost use Rattle.std.specs.Bool.{OnFalse, OnTrue};
 ghost use Rattle.std.specs.Prelude.{◌≡◌, ◌≢◌, ◌==◌, ℕ, List, [], ◌∷◌, MatchOption, position};
 ghost use Rattle.vt_journal.specs.Cut.{words_of_text};
+ghost use Rattle.vt_journal.specs.Taking.{if_none_left};
 
 use std::marker::Model;
 
@@ -42,6 +43,16 @@ impl<'a> Words<'a> {
                 self.rest = None;
                 Some(rest)
             }
+        }
+    }
+
+    /// The value that was taken from the words, if no word is left.
+    pub fn if_none_left<T: Drop>(&self, taken: Option<T>) -> Option<T>
+        ensures { result ≡ if_none_left self.now taken }
+    {
+        match self.rest {
+            Some(_rest) => None,
+            None => taken,
         }
     }
 }

@@ -1,9 +1,8 @@
 //! Signals, and waits for a signal, for the display and for input.
 ghost use Rattle.std.specs.List.{list_any};
-ghost use Rattle.std.specs.Prelude.{◌≡◌, ◌==◌, true, not, if◌then◌else◌};
-ghost use Rattle.vt_procs.specs.Callers.{caller_at, is_live};
+ghost use Rattle.std.specs.Prelude.{◌≡◌, ◌==◌, not, if◌then◌else◌};
+ghost use Rattle.vt_procs.specs.Callers.{caller_at};
 ghost use Rattle.vt_procs.specs.Tickets.{all_ended_by, after_signal, can_go, after_wait_report, ended_by, after_input_on, is_for_display, is_for_input, is_open, waiting_after_report, after_raise, after_idle_rule, after_display_of, after_taking_signals, waited_of, waits, waits_for};
-ghost use Rattle.vt_procs.specs.declared.waited.Waited.{Waited};
 ghost use Rattle.vt_procs.specs.declared.waiting.Waiting.{Waiting};
 
 use crate::ending::Ending;
@@ -14,7 +13,6 @@ impl Procs {
     /// Makes the signal pending for `p` and ends its open wait. Signal 9 is not taken: it ends its
     /// process (signal(7)), by [`Procs::end`].
     pub fn raise(&mut self, p: CallerNo, s: Signal)
-        requires { is_live self.old p ≡ true }
         ensures { self.new ≡ after_raise p s self.old }
     {
         let process = &mut self.callers[usize::from(p.get())];
@@ -31,7 +29,6 @@ impl Procs {
 
     /// Takes the pending signals of `p`.
     pub fn take_signals(&mut self, p: CallerNo) -> SigSet
-        requires { is_live self.old p ≡ true }
         ensures answer { result ≡ (caller_at self.old p).pending }
         ensures state { self.new ≡ after_taking_signals p self.old }
     {
@@ -41,10 +38,8 @@ impl Procs {
         pending
     }
 
-    /// `p` begins a wait.
+    /// `p` begins a wait, in place of one that it has.
     pub fn wait(&mut self, p: CallerNo, t: Ticket)
-        requires live { is_live self.old p ≡ true }
-        requires none { waited_of (caller_at self.old p).waiting ≡ Waited.None }
         ensures { self.new ≡ waits p t self.old }
     {
         self.callers[usize::from(p.get())].waiting = Waiting::Open(t);
@@ -67,7 +62,6 @@ impl Procs {
 
     /// Returns how the wait of `p` ended and removes the wait, unless it is still open.
     pub fn collect(&mut self, p: CallerNo) -> Waited
-        requires { is_live self.old p ≡ true }
         ensures answer { result ≡ waited_of (caller_at self.old p).waiting }
         ensures state { self.new ≡ after_wait_report p self.old }
     {

@@ -3,3 +3,4 @@ pub mod HighKinds
 pub mod Rings
 pub mod Stills
 pub mod Tellings
+pub mod Written

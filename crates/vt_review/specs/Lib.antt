@@ -1,5 +1,6 @@
 pub mod Announcements
 pub mod Ears
+pub mod Kept
 pub mod Lines
 pub mod Reviews
 pub mod Screens

@@ -1,7 +1,8 @@
 //! The lines of ears for a history, entry by entry.
-ghost use Rattle.std.specs.Prelude.{◌≡◌, ◌≤◌, ◌++◌, [], ℕ, OnOk};
+ghost use Rattle.std.specs.Prelude.{◌≡◌, ◌≤◌, ◌++◌, [], ℕ, IfSome, OnOk};
 ghost use Rattle.std.specs.List.{flat_map};
 ghost use Rattle.vt_review.specs.Announcements.{entry_lines, left_by, rows_told};
+ghost use Rattle.vt_review.specs.Kept.{WritesAtMost};
 ghost use Rattle.vt_review.specs.Lines.{ear_lines};
 ghost use Rattle.vt_review.specs.Seen.{IsLeft, OthersAreLeft};
 ghost use Rattle.vt_world.specs.Terminals.{terminal_at};
@@ -13,7 +14,8 @@ use crate::{Ear, Listener};
 use std::alloc::Global;
 use vt_base::{Bytes, ConsoleNo, NoMemory};
 use vt_check::Witness;
-use vt_events::Entry;
+use vt_events::{Entry, Event};
+use vt_screen::Emu;
 use vt_world::{World, legal_grows, terminals_stay};
 
 /// The lines so far, and the machine before the entry that comes next.
@@ -91,7 +93,7 @@ fn tell_entry<F: Listener>(
 {
     terminals_stay();
     match touched(before, entry.caller, &entry.event) {
-        Some(console) => tell_touched(alloc, text, ears, e, before, after, console),
+        Some(console) => tell_touched(alloc, text, ears, e, before, after, console, entry),
         None => tell_untouched(alloc, text, ears, e, before, after),
     }
 }
@@ -105,8 +107,10 @@ fn tell_touched<F: Listener>(
     before: &World,
     after: &World,
     console: ConsoleNo,
+    entry: &Entry,
 ) -> Result<(), NoMemory>
-    requires { OthersAreLeft console before.now after.now }
+    requires left { after.now ≡ left_by before.now entry.now }
+    requires others { OthersAreLeft console before.now after.now }
     ensures { OnOk result (text.new.bytes
         ≡ text.old.bytes ++ entry_lines ears.now e before.now after.now) }
 {
@@ -118,7 +122,7 @@ fn tell_touched<F: Listener>(
     if front != console.get() {
         return Ok(());
     }
-    tell_screen(alloc, text, ears, e, before, after, console)?;
+    tell_screen(alloc, text, ears, e, before, after, console, entry)?;
     Ok(())
 }
 
@@ -131,7 +135,9 @@ fn tell_screen<F: Listener>(
     before: &World,
     after: &World,
     console: ConsoleNo,
+    entry: &Entry,
 ) -> Result<(), NoMemory>
+    requires { after.now ≡ left_by before.now entry.now }
     ensures { OnOk result (text.new.bytes
         ≡ text.old.bytes
         ++ flat_map (ear_lines 0 e ears.now) (rows_told before.now after.now console)) }
@@ -139,12 +145,21 @@ fn tell_screen<F: Listener>(
     let Some(screen) = after.screen(console) else {
         return Ok(());
     };
-    let old = match before.screen(console) {
-        Some(old) => Some(old.grid()),
-        None => None,
+    let Some(old) = before.screen(console) else {
+        return tell_rows(alloc, text, ears, e, console, None, None, screen.grid());
     };
-    tell_rows(alloc, text, ears, e, console, old, screen.grid())?;
-    Ok(())
+    let changed = changed_rows(old, &entry.event);
+    tell_rows(alloc, text, ears, e, console, changed, Some(old.grid()), screen.grid())
+}
+
+// The rows of the screen that the event may change, if they are known.
+fn changed_rows(emu: &Emu, event: &Event) -> Option<(u8, u8)>
+    ensures { IfSome result (λ rows. WritesAtMost rows.0 rows.1 emu.now event.now) }
+{
+    match event {
+        Event::Write(_, bytes) => emu.changed_rows(bytes.as_slice()),
+        _ => None,
+    }
 }
 
 // Adds the lines of an entry that touches no console.

@@ -1,5 +1,5 @@
 -- The requests of each case of the effect table.
-use Rattle.std.proofs.Common.{◌≡◌, ℕ, ◌-◌, ◌≤◌, ◌==◌, ◌&&◌, ◌||◌, not, Bool, true, false, List, nat_le, cond, Some, None, refl, arith}
+use Rattle.std.proofs.Common.{◌≡◌, ℕ, ◌≤◌, ◌==◌, ◌&&◌, ◌||◌, Bool, true, false, List, nat_le, cond, Some, None, refl, arith}
 use Rattle.std.specs.Prelude.{Option}
 use Rattle.vt_screen.specs.Asking.{asks}
 use Rattle.vt_screen.specs.Effect.{control, control_sequence, effect, escape, number_at, plain_escape, private_sequence}

@@ -14,10 +14,10 @@ use Rattle.vt_units.specs.declared.then.Then as then
 use Rattle.vt_units.specs.declared.unit.Unit as units
 
 -- the same, with more said before
-abbrev behind : List Out → ScreenAndOuts → ScreenAndOuts
+abbrev pub behind : List Out → ScreenAndOuts → ScreenAndOuts
 behind outs t = record { screen = t.screen; outs = outs ++ t.outs }
 
-abbrev make_reached-behind : List Out → Reached ScreenAndOuts → Reached ScreenAndOuts
+abbrev pub make_reached-behind : List Out → Reached ScreenAndOuts → Reached ScreenAndOuts
 make_reached-behind outs at = make_reached (behind outs at.state) at.rest
 
 done_behind : (f : Screen → Effect) (outs : List Out) (t : ScreenAndOuts)

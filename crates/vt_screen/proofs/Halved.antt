@@ -1,8 +1,7 @@
 -- Each case of the effect table keeps the property of rows that their edits keep.
-use Rattle.std.proofs.Common.{◌≡◌, ℕ, ◌+◌, ◌-◌, ◌==◌, ◌&&◌, ◌||◌, Bool, true, false, List, [], ◌∷◌, ◌++◌, take, drop, replicate, min, nat_lt, nat_le, refl, ap, cond}
-use Rattle.std.specs.Prelude.{All}
+use Rattle.std.proofs.Common.{◌≡◌, ℕ, ◌+◌, ◌-◌, ◌==◌, ◌&&◌, ◌||◌, Bool, true, false, List, [], ◌∷◌, ◌++◌, take, drop, replicate, min, nat_lt, nat_le, refl, cond}
 use Rattle.std.proofs.lemmas.List.Elements.{All-append, All-drop, All-take}
-use Rattle.vt_cells.specs.Width.{half, is_half}
+use Rattle.vt_cells.specs.Width.{half}
 use Rattle.vt_cells.specs.declared.cell.Cell.{Cell}
 use Rattle.vt_grid.specs.Grid.{cells_of_codes}
 use Rattle.vt_screen.proofs.Edits.{Each, Edits}
@@ -67,9 +66,6 @@ module _ (Row : List Cell → Type 0) where
     cells-deleted : (n : ℕ) (s : Screen) → HasHalves s → HasHalves (cells_deleted n s)
     cells-deleted n s h = (law.deleting s.grid s.state.y s.state.x n (blank_of s) h.0 refl, h.1)
 
-    blank-rows : (n cols : ℕ) (c : Cell) → is_half c ≡ false → All Row (replicate n (replicate cols c))
-    blank-rows n cols c none = law.filling n cols c none
-
     rows-erased : (from count : ℕ) (s : Screen) → HasHalves s → HasHalves (rows_erased from count s)
     unfolding rows_erased
     rows-erased from count s h = (
@@ -77,15 +73,9 @@ module _ (Row : List Cell → Type 0) where
           (replicate count (replicate s.grid.cols (blank_of s)) ++ drop (from + count) s.grid.cells)
           (All-take Row from s.grid.cells h.0)
           (All-append Row (replicate count (replicate s.grid.cols (blank_of s))) (drop (from + count) s.grid.cells)
-          (blank-rows count s.grid.cols (blank_of s) refl) (All-drop Row (from + count) s.grid.cells h.0)),
+          (law.filling count s.grid.cols (blank_of s) refl) (All-drop Row (from + count) s.grid.cells h.0)),
       h.1,
     )
-
-    line-end : (s : Screen) → HasHalves s → HasHalves (line_end_erased s)
-    line-end s h = line-erased s.state.x (s.grid.cols - 1) s h
-
-    line-start : (s : Screen) → HasHalves s → HasHalves (line_start_erased s)
-    line-start s h = line-erased 0 s.state.x s h
 
     display-erased : (which : ℕ) (s : Screen) → HasHalves s → HasHalves (erase_display which s)
     unfolding erase_display
@@ -93,16 +83,16 @@ module _ (Row : List Cell → Type 0) where
         let low = line_end_erased s in
         let high = line_start_erased s in
         either (which == 0) (without_pending_wrap (below_erased low)) _
-        (rows-erased (low.state.y + 1) (low.grid.rows - (low.state.y + 1)) low (line-end s h))
+        (rows-erased (low.state.y + 1) (low.grid.rows - (low.state.y + 1)) low (line-erased s.state.x (s.grid.cols - 1) s h))
         (either (which == 1) (without_pending_wrap (above_erased high)) _
-        (rows-erased 0 high.state.y high (line-start s h))
+        (rows-erased 0 high.state.y high (line-erased 0 s.state.x s h))
         (either (which == 2 || which == 3) (without_pending_wrap (all_erased s)) s (rows-erased 0 s.grid.rows s h) h))
 
     row-erased : (which : ℕ) (s : Screen) → HasHalves s → HasHalves (erase_line which s)
     unfolding erase_line
     row-erased which s h =
-        either (which == 0) (without_pending_wrap (line_end_erased s)) _ (line-end s h)
-        (either (which == 1) (without_pending_wrap (line_start_erased s)) _ (line-start s h)
+        either (which == 0) (without_pending_wrap (line_end_erased s)) _ (line-erased s.state.x (s.grid.cols - 1) s h)
+        (either (which == 1) (without_pending_wrap (line_start_erased s)) _ (line-erased 0 s.state.x s h)
         (either (which == 2) (without_pending_wrap (line_erased 0 (s.grid.cols - 1) s)) s (line-erased 0 (s.grid.cols - 1) s h) h))
 
     characters-erased : (n : ℕ) (s : Screen) → HasHalves s → HasHalves (erase_characters n s)
@@ -156,45 +146,13 @@ module _ (Row : List Cell → Type 0) where
         (either (w == 2 && s.grid.cols == 1) (with_character 1 0xFFFD s) (with_character w code s) (set-down 1 0xFFFD s malformed h) (set-down w code s is h))
 
     -- what changes the state alone
-    cursor-moved : (y x : ℕ) (s : Screen) → HasHalves s → HasHalves (cursor_to y x s)
-    unfolding cursor_to
-    cursor-moved y x s h = h
-
-    cursor-placed : (y x : ℕ) (s : Screen) → HasHalves s → HasHalves (cursor_to_in_region y x s)
-    unfolding cursor_to_in_region cursor_to
-    cursor-placed y x s h = h
-
-    tabbed : (s : Screen) → HasHalves s → HasHalves (tab s)
-    unfolding tab
-    tabbed s h = h
-
-    invoked : (shift : ℕ) (display : Bool) (s : Screen) → HasHalves s → HasHalves (after_shift shift display s)
-    unfolding after_shift
-    invoked shift display s h = h
-
     coded : (last : ℕ) (s : Screen) → HasHalves s → HasHalves (with_coding last s)
     unfolding with_coding
     coded last s h = either (last == 0x40) _ _ h (either (last == 0x47) _ _ h (either (last == 0x38) _ s h h))
 
-    first-set : (last : ℕ) (s : Screen) → HasHalves s → HasHalves (with_g0 last s)
-    unfolding with_g0
-    first-set last s h = h
-
-    second-set : (last : ℕ) (s : Screen) → HasHalves s → HasHalves (with_g1 last s)
-    unfolding with_g1
-    second-set last s h = h
-
-    stop-set : (s : Screen) → HasHalves s → HasHalves (set_stop s)
-    unfolding set_stop
-    stop-set s h = h
-
     stops-cleared : (which : ℕ) (s : Screen) → HasHalves s → HasHalves (clear_stops which s)
     unfolding clear_stops
     stops-cleared which s h = either (which == 0) _ _ h (either (which == 3) _ s h h)
-
-    keypad-set : (on : Bool) (s : Screen) → HasHalves s → HasHalves (with_keypad on s)
-    unfolding with_keypad
-    keypad-set on s h = h
 
     each-keeps : (f : ℕ → Screen → Screen) → ((n : ℕ) (s : Screen) → HasHalves s → HasHalves (f n s))
         → (numbers : List ℕ) (s : Screen) → HasHalves s → HasHalves (each f numbers s)
@@ -206,32 +164,20 @@ module _ (Row : List Cell → Type 0) where
     mode-set on n s h = either (n == 3) _ _ h (either (n == 4) _ _ h (either (n == 20) _ s h h))
 
     private-mode-set : (on : Bool) (n : ℕ) (s : Screen) → HasHalves s → HasHalves (with_private_mode on n s)
-    unfolding with_private_mode
+    unfolding with_private_mode cursor_to_in_region cursor_to
     private-mode-set on n s h =
         either (n == 1) _ _ h
         (either (n == 5) _ _ h
-        (either (n == 6) _ _ (cursor-placed 0 0 _ h)
+        (either (n == 6) _ _ h
         (either (n == 7) _ _ h
         (either (n == 8) _ _ h
         (either (n == 25) _ s h h)))))
 
     region-set : (t b : ℕ) (s : Screen) → HasHalves s → HasHalves (with_region t b s)
-    unfolding with_region
+    unfolding with_region cursor_to_in_region cursor_to
     region-set t b s h =
         let last = cond (b == 0) s.grid.rows b in
-        either (nat_lt t last && nat_le last s.grid.rows) _ s (cursor-placed 0 0 _ h) h
-
-    pen-set : (params : List ℕ) (s : Screen) → HasHalves s → HasHalves (after_sgr params s)
-    unfolding after_sgr
-    pen-set params s h = h
-
-    saved : (s : Screen) → HasHalves s → HasHalves (save s)
-    unfolding save
-    saved s h = h
-
-    restored : (s : Screen) → HasHalves s → HasHalves (restore s)
-    unfolding restore cursor_to
-    restored s h = h
+        either (nat_lt t last && nat_le last s.grid.rows) _ s h h
 
     pub coloured : (n : ℕ) (rgb : Rgb) (s : Screen) → HasHalves s → HasHalves (with_colour n rgb s)
     unfolding with_colour
@@ -267,40 +213,40 @@ module _ (Row : List Cell → Type 0) where
 
     -- the table
     pub control_keeps : (code : ℕ) (s : Screen) → HasHalves s → HasHalves (control code s).screen
-    unfolding control
+    unfolding control tab after_shift
     control_keeps code s h =
         either-done (code == 0x07) _ _ h
         (either-done (code == 0x08) _ _ h
-        (either-done (code == 0x09) _ _ (tabbed s h)
+        (either-done (code == 0x09) _ _ h
         (either-done (code == 0x0A) _ _ (new-line s h)
         (either-done (code == 0x0B) _ _ (new-line s h)
         (either-done (code == 0x0C) _ _ (new-line s h)
         (either-done (code == 0x0D) _ _ h
-        (either-done (code == 0x0E) _ _ (invoked 1 true s h)
-        (either-done (code == 0x0F) _ (without_out s) (invoked 0 false s h) h))))))))
+        (either-done (code == 0x0E) _ _ h
+        (either-done (code == 0x0F) _ (without_out s) h h))))))))
 
     plain-escape-keeps : (last : ℕ) (s : Screen) → HasHalves s → HasHalves (plain_escape last s).screen
-    unfolding plain_escape
+    unfolding plain_escape set_stop save restore cursor_to with_keypad
     plain-escape-keeps last s h =
         either-done (last == 0x63) _ _ (screen-reset s h)
         (either-done (last == 0x44) _ _ (line-feed s h)
         (either-done (last == 0x45) _ _ (line-feed (at_column 0 s) h)
-        (either-done (last == 0x48) _ _ (stop-set s h)
+        (either-done (last == 0x48) _ _ h
         (either-done (last == 0x4D) _ _ (reverse-line-feed s h)
         (either-done (last == 0x5A) _ _ (device 0 s h)
-        (either-done (last == 0x37) _ _ (saved s h)
-        (either-done (last == 0x38) _ _ (restored s h)
-        (either-done (last == 0x3E) _ _ (keypad-set false s h)
-        (either-done (last == 0x3D) _ (without_out s) (keypad-set true s h) h)))))))))
+        (either-done (last == 0x37) _ _ h
+        (either-done (last == 0x38) _ _ h
+        (either-done (last == 0x3E) _ _ h
+        (either-done (last == 0x3D) _ (without_out s) h h)))))))))
 
     pub escape_keeps : (mid last : ℕ) (s : Screen) → HasHalves s → HasHalves (escape mid last s).screen
-    unfolding escape
+    unfolding escape with_g0 with_g1
     escape_keeps mid last s h =
         either-done (mid == 0) _ _ (plain-escape-keeps last s h)
         (either-done (mid == 0x25) _ _ (coded last s h)
         (either-done (mid == 0x23) _ _ (either (last == 0x38) (alignment_pattern s) s (screen-aligned s h) h)
-        (either-done (mid == 0x28) _ _ (first-set last s h)
-        (either-done (mid == 0x29) _ (without_out s) (second-set last s h) h))))
+        (either-done (mid == 0x28) _ _ h
+        (either-done (mid == 0x29) _ (without_out s) h h))))
 
     pub private_keeps : (params : List ℕ) (last : ℕ) (s : Screen) → HasHalves s → HasHalves (private_sequence params last s).screen
     unfolding private_sequence
@@ -309,41 +255,39 @@ module _ (Row : List Cell → Type 0) where
         (either-done (last == 0x6C) _ (without_out s) (each-keeps (with_private_mode false) (private-mode-set false) params s h) h)
 
     pub sequence_keeps : (params : List ℕ) (last : ℕ) (s : Screen) → HasHalves s → HasHalves (control_sequence params last s).screen
-    unfolding control_sequence
+    unfolding control_sequence cursor_to cursor_to_in_region after_sgr save restore
     sequence_keeps params last s h =
         let n = count_of params in
         let first = number_at params 0 in
         let second = number_at params 1 in
-        let y = s.state.y in
-        let x = s.state.x in
         either-done (last == 0x40) _ _ (characters-inserted n s h)
-        (either-done (last == 0x41) _ _ (cursor-moved (y - n) x s h)
-        (either-done (last == 0x42) _ _ (cursor-moved (y + n) x s h)
-        (either-done (last == 0x43) _ _ (cursor-moved y (x + n) s h)
-        (either-done (last == 0x44) _ _ (cursor-moved y (x - n) s h)
-        (either-done (last == 0x45) _ _ (cursor-moved (y + n) 0 s h)
-        (either-done (last == 0x46) _ _ (cursor-moved (y - n) 0 s h)
-        (either-done (last == 0x47) _ _ (cursor-moved y (n - 1) s h)
-        (either-done (last == 0x48) _ _ (cursor-placed (n - 1) (second - 1) s h)
+        (either-done (last == 0x41) _ _ h
+        (either-done (last == 0x42) _ _ h
+        (either-done (last == 0x43) _ _ h
+        (either-done (last == 0x44) _ _ h
+        (either-done (last == 0x45) _ _ h
+        (either-done (last == 0x46) _ _ h
+        (either-done (last == 0x47) _ _ h
+        (either-done (last == 0x48) _ _ h
         (either-done (last == 0x4A) _ _ (display-erased first s h)
         (either-done (last == 0x4B) _ _ (row-erased first s h)
         (either-done (last == 0x4C) _ _ (lines-inserted n s h)
         (either-done (last == 0x4D) _ _ (lines-deleted n s h)
         (either-done (last == 0x50) _ _ (characters-deleted n s h)
         (either-done (last == 0x58) _ _ (characters-erased n s h)
-        (either-done (last == 0x61) _ _ (cursor-moved y (x + n) s h)
+        (either-done (last == 0x61) _ _ h
         (either-done (last == 0x63) _ _ (device first s h)
-        (either-done (last == 0x64) _ _ (cursor-placed (n - 1) x s h)
-        (either-done (last == 0x65) _ _ (cursor-moved (y + n) x s h)
-        (either-done (last == 0x66) _ _ (cursor-placed (n - 1) (second - 1) s h)
+        (either-done (last == 0x64) _ _ h
+        (either-done (last == 0x65) _ _ h
+        (either-done (last == 0x66) _ _ h
         (either-done (last == 0x67) _ _ (stops-cleared first s h)
         (either-done (last == 0x68) _ _ (each-keeps (with_mode true) (mode-set true) params s h)
         (either-done (last == 0x6C) _ _ (each-keeps (with_mode false) (mode-set false) params s h)
-        (either-done (last == 0x6D) _ _ (pen-set params s h)
+        (either-done (last == 0x6D) _ _ h
         (either-done (last == 0x6E) _ _ (status first s h)
         (either-done (last == 0x71) _ _ (lit first s h)
         (either-done (last == 0x72) _ _ (region-set n second s h)
-        (either-done (last == 0x73) _ _ (saved s h)
-        (either-done (last == 0x75) _ _ (restored s h)
-        (either-done (last == 0x60) _ _ (cursor-moved y (n - 1) s h)
+        (either-done (last == 0x73) _ _ h
+        (either-done (last == 0x75) _ _ h
+        (either-done (last == 0x60) _ _ h
         (either-done (last == 0x5D) _ (without_out s) (setting first second s h) h))))))))))))))))))))))))))))))

@@ -1,6 +1,7 @@
 -- Each case of the effect table leaves the cursor inside.
-use Rattle.std.proofs.Common.{ℕ, ◌+◌, ◌-◌, ◌==◌, ◌&&◌, Bool, true, false, List, nat_lt, nat_le, ap, ◌∙◌, ◌≡◌, arith}
+use Rattle.std.proofs.Common.{ℕ, ◌+◌, ◌-◌, ◌==◌, ◌&&◌, Bool, true, false, List, nat_lt, nat_le, arith}
 use Rattle.std.specs.Prelude.{IsTrue}
+use Rattle.std.proofs.lemmas.Bool.{and_from}
 use Rattle.vt_screen.proofs.Insides.{IsInside, characters_deleted, characters_erased, characters_inserted, coded, cursor_cursor_to, cursor_cursor_to_in_region, display_erased, each_keeps, either, either_done, either_done_if, first_column, first_set, invoked, keypad_set, line_feed, lines_deleted, lines_inserted, mode_set, new_line, pen_set, private_mode_set, region_set, restored, reverse_line_feed, row_erased, cursor_saved, screen_alignment_pattern, screen_reset, second_set, stop_set, stops_cleared, tabbed, to_column}
 use Rattle.vt_screen.specs.Cursor.{at_column}
 use Rattle.vt_screen.specs.Effect.{control, control_sequence, count_of, escape, number_at, plain_escape, private_sequence}
@@ -9,9 +10,6 @@ use Rattle.vt_screen.specs.Screen.{Screen, start_saved}
 use Rattle.vt_screen.specs.SavedCursor.{saved_of}
 use Rattle.vt_screen.specs.Settings.{alignment_pattern, with_mode, with_private_mode}
 use Rattle.vt_screen.specs.declared.saved.Saved.{Saved}
-
-both : (a b : Bool) → a ≡ true → b ≡ true → (a && b) ≡ true
-both a b e f = ap (λ t. t && b) e ∙ f
 
 module _ (rule : Saved → ℕ → ℕ → Type 0) where
   -- what says something
@@ -81,7 +79,7 @@ module _ (rule : Saved → ℕ → ℕ → Type 0) where
   unfolding escape
   escape_keeps mid last s save_ok reset_ok h =
       either_done_if rule (mid == 0) _ _
-      (λ e. plain-escape-keeps last s (λ f. save_ok (both (mid == 0) (last == 0x37) e f)) (λ f. reset_ok (both (mid == 0) (last == 0x63) e f)) h) (λ _.
+      (λ e. plain-escape-keeps last s (λ f. save_ok (and_from (mid == 0) (last == 0x37) e f)) (λ f. reset_ok (and_from (mid == 0) (last == 0x63) e f)) h) (λ _.
       (either_done rule (mid == 0x25) _ _ (coded rule last s h)
       (either_done rule (mid == 0x23) _ _ (either rule (last == 0x38) (alignment_pattern s) s (screen_alignment_pattern rule s h) h)
       (either_done rule (mid == 0x28) _ _ (first_set rule last s h)

@@ -1,11 +1,10 @@
 -- Each case of the effect table leaves the cursor in the screen, and in origin mode in the region.
-use Rattle.std.proofs.Common.{◌≡◌, ℕ, ◌+◌, ◌-◌, ◌==◌, ◌&&◌, ◌||◌, ◌<◌, ◌≤◌, Bool, true, false, List, [], ◌∷◌, length, max, min, nat_lt, nat_le, refl, sym, ◌∙◌, cond, arith, inl, inr, ltb-true}
+use Rattle.std.proofs.Common.{◌≡◌, ℕ, ◌+◌, ◌-◌, ◌==◌, ◌&&◌, ◌||◌, ◌<◌, ◌≤◌, Bool, true, false, List, [], ◌∷◌, length, max, min, nat_lt, nat_le, refl, cond, arith, ltb-true}
 use Rattle.std.specs.Prelude.{IsTrue}
-use Rattle.std.proofs.lemmas.Bool.{and_parts, false≢true, leb-true}
-use Rattle.std.proofs.lemmas.Bool.Decides.{eqb_tells}
+use Rattle.std.proofs.lemmas.Bool.{and_parts, eqb-false, false≢true, leb-true}
 use Rattle.vt_cells.specs.Colours.{Rgb}
 use Rattle.vt_screen.specs.Cursor.{at_column, at_row, first_row, linefeed, cursor_to, newline, cursor_to_in_region, region_down, region_up, reverse_linefeed, tab}
-use Rattle.vt_screen.specs.Erasing.{above_erased, all_erased, below_erased, cells_deleted, cells_inserted, delete_characters, delete_lines, erase_characters, erase_display, erase_line, in_region, insert_characters, insert_lines, line_end_erased, line_erased, line_start_erased, rows_erased, without_pending_wrap}
+use Rattle.vt_screen.specs.Erasing.{cells_inserted, delete_characters, delete_lines, erase_characters, erase_display, erase_line, in_region, insert_characters, insert_lines, rows_erased}
 use Rattle.vt_screen.specs.Printing.{codes_drawn, lacks_room, with_gap, print, with_cells_at_cursor, with_character, after_wrap}
 use Rattle.vt_screen.specs.Saying.{Effect}
 use Rattle.vt_screen.specs.Screen.{Screen, start_saved, with_state}
@@ -25,12 +24,6 @@ IsInside rule s =
     × (IsTrue s.state.origin → (s.state.top ≤ s.state.y) × (s.state.y ≤ s.state.bottom))
     × rule s.state.saved s.grid.rows s.grid.cols
 
-apart : (n m : ℕ) → (n == m) ≡ false → n ≡ m → ⊥
-apart n m e h = elim (eqb_tells n m) [
-  | inl x ↦ false≢true (sym e ∙ x.0)
-  | inr x ↦ x.1 h
-]
-
 -- a move goes to the rows that it reaches
 row_in : (o : Bool) (top bottom rows y : ℕ) → top ≤ bottom → bottom < rows → max (cond o top 0) (min y (cond o bottom (rows - 1))) < rows
 row_in true top bottom rows y h k = omega arith
@@ -41,7 +34,7 @@ row_reached true top bottom rows y h o = (omega arith, omega arith)
 row_reached false top bottom rows y h o = absurd (false≢true o)
 
 some_columns : (w : ℕ) → (w == 0) ≡ false → 1 ≤ w
-some_columns w e = let other = apart w 0 e in omega (arith, other)
+some_columns w e = let other = eqb-false w 0 e in omega (arith, other)
 
 module _ (rule : Saved → ℕ → ℕ → Type 0) where
   region-of : (s : Screen) → IsInside rule s → HasRegion s
@@ -89,20 +82,12 @@ module _ (rule : Saved → ℕ → ℕ → Type 0) where
   cursor_cursor_to_in_region y x s h = cursor-placed-in y x s (region-of s h) h.5
 
   -- what moves the cursor and scrolls
-  region-up : (s : Screen) → IsInside rule s → IsInside rule (region_up s)
-  unfolding IsInside
-  region-up s h = h
-
-  region-down : (s : Screen) → IsInside rule s → IsInside rule (region_down s)
-  unfolding IsInside
-  region-down s h = h
-
   pub line_feed : (s : Screen) → IsInside rule s → IsInside rule (linefeed s)
   unfolding IsInside
   line_feed s h =
-      either-if (s.state.y == s.state.bottom) (region_up s) (at_row (min (s.state.y + 1) (s.grid.rows - 1)) s) (λ _. region-up s h)
+      either-if (s.state.y == s.state.bottom) (region_up s) (at_row (min (s.state.y + 1) (s.grid.rows - 1)) s) (λ _. h)
       (λ e.
-      let other = apart s.state.y s.state.bottom e in
+      let other = eqb-false s.state.y s.state.bottom e in
       let y = h.0 in
       let b = h.3 in (
         omega (arith, y),
@@ -119,9 +104,9 @@ module _ (rule : Saved → ℕ → ℕ → Type 0) where
   pub reverse_line_feed : (s : Screen) → IsInside rule s → IsInside rule (reverse_linefeed s)
   unfolding IsInside
   reverse_line_feed s h =
-      either-if (s.state.y == s.state.top) (region_down s) (at_row (s.state.y - 1) s) (λ _. region-down s h)
+      either-if (s.state.y == s.state.top) (region_down s) (at_row (s.state.y - 1) s) (λ _. h)
       (λ e.
-      let other = apart s.state.y s.state.top e in
+      let other = eqb-false s.state.y s.state.top e in
       let y = h.0 in (
         omega (arith, y),
         h.1,
@@ -148,59 +133,25 @@ module _ (rule : Saved → ℕ → ℕ → Type 0) where
       line_feed (cond s.state.newline (at_column 0 s) s) (either s.state.newline (at_column 0 s) s (first_column s h) h)
 
   -- what erases, inserts and deletes
-  line-erased : (x0 x1 : ℕ) (s : Screen) → IsInside rule s → IsInside rule (line_erased x0 x1 s)
-  unfolding IsInside
-  line-erased x0 x1 s h = h
-
-  cells-inserted : (n : ℕ) (s : Screen) → IsInside rule s → IsInside rule (cells_inserted n s)
-  unfolding IsInside
-  cells-inserted n s h = h
-
-  cells-deleted : (n : ℕ) (s : Screen) → IsInside rule s → IsInside rule (cells_deleted n s)
-  unfolding IsInside
-  cells-deleted n s h = h
-
-  rows-erased : (from count : ℕ) (s : Screen) → IsInside rule s → IsInside rule (rows_erased from count s)
-  unfolding rows_erased IsInside
-  rows-erased from count s h = h
-
-  line-end : (s : Screen) → IsInside rule s → IsInside rule (line_end_erased s)
-  unfolding IsInside
-  line-end s h = line-erased s.state.x (s.grid.cols - 1) s h
-
-  line-start : (s : Screen) → IsInside rule s → IsInside rule (line_start_erased s)
-  unfolding IsInside
-  line-start s h = line-erased 0 s.state.x s h
-
   pub display_erased : (which : ℕ) (s : Screen) → IsInside rule s → IsInside rule (erase_display which s)
-  unfolding erase_display IsInside
-  display_erased which s h =
-      let low = line_end_erased s in
-      let high = line_start_erased s in
-      either (which == 0) (without_pending_wrap (below_erased low)) _
-      (rows-erased (low.state.y + 1) (low.grid.rows - (low.state.y + 1)) low (line-end s h))
-      (either (which == 1) (without_pending_wrap (above_erased high)) _
-      (rows-erased 0 high.state.y high (line-start s h))
-      (either (which == 2 || which == 3) (without_pending_wrap (all_erased s)) s (rows-erased 0 s.grid.rows s h) h))
+  unfolding erase_display rows_erased IsInside
+  display_erased which s h = either (which == 0) _ _ h (either (which == 1) _ _ h (either (which == 2 || which == 3) _ s h h))
 
   pub row_erased : (which : ℕ) (s : Screen) → IsInside rule s → IsInside rule (erase_line which s)
   unfolding erase_line IsInside
-  row_erased which s h =
-      either (which == 0) (without_pending_wrap (line_end_erased s)) _ (line-end s h)
-      (either (which == 1) (without_pending_wrap (line_start_erased s)) _ (line-start s h)
-      (either (which == 2) (without_pending_wrap (line_erased 0 (s.grid.cols - 1) s)) s (line-erased 0 (s.grid.cols - 1) s h) h))
+  row_erased which s h = either (which == 0) _ _ h (either (which == 1) _ _ h (either (which == 2) _ s h h))
 
   pub characters_erased : (n : ℕ) (s : Screen) → IsInside rule s → IsInside rule (erase_characters n s)
   unfolding erase_characters IsInside
-  characters_erased n s h = line-erased s.state.x (min (s.state.x + n - 1) (s.grid.cols - 1)) s h
+  characters_erased n s h = h
 
   pub characters_inserted : (n : ℕ) (s : Screen) → IsInside rule s → IsInside rule (insert_characters n s)
   unfolding insert_characters IsInside
-  characters_inserted n s h = cells-inserted n s h
+  characters_inserted n s h = h
 
   pub characters_deleted : (n : ℕ) (s : Screen) → IsInside rule s → IsInside rule (delete_characters n s)
   unfolding delete_characters IsInside
-  characters_deleted n s h = cells-deleted n s h
+  characters_deleted n s h = h
 
   pub lines_inserted : (n : ℕ) (s : Screen) → IsInside rule s → IsInside rule (insert_lines n s)
   unfolding insert_lines IsInside
@@ -243,7 +194,7 @@ module _ (rule : Saved → ℕ → ℕ → Type 0) where
   set-down w code s some h =
       let there = after_wrap w s in
       let there_is : IsInside rule there = wrapped-in w s some h in
-      put (codes_drawn w code) (with_gap w there) (either there.state.insert (cells_inserted w there) there (cells-inserted w there there_is) there_is)
+      put (codes_drawn w code) (with_gap w there) (either there.state.insert (cells_inserted w there) there there_is there_is)
 
   pub printed_once : (w code : ℕ) (s : Screen) → IsInside rule s → IsInside rule (print w code s)
   unfolding print IsInside

@@ -1,9 +1,9 @@
 mod Asking
 mod AskingTable
 mod AskingTexts
+mod Changes
 mod Controls
 mod Cuts
-mod Cutting
 mod Edits
 mod Feeds
 mod FollowWide
@@ -12,6 +12,7 @@ mod Halved
 mod InsideTable
 mod Hearing
 mod Insides
+mod Places
 mod Prefixes
 mod Printed
 mod PutBack

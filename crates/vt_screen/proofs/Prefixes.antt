@@ -1,7 +1,9 @@
 -- The prefix of a list whose elements pass a test.
-use Rattle.std.proofs.Common.{◌≡◌, ℕ, suc, ◌+◌, Bool, true, false, List, [], ◌∷◌, take, refl, ap, ◌∙◌, arith}
+use Rattle.std.proofs.Common.{◌≡◌, ◌≤◌, ℕ, suc, ◌+◌, length, Bool, true, false, List, [], ◌∷◌, take, refl, ap, ◌∙◌, arith}
 use Rattle.std.specs.List.{list_all, prefix_len}
 use Rattle.std.proofs.lemmas.Bool.{and_from, cond-false, cond-true}
+use Rattle.std.proofs.lemmas.List.Sums.{prefix_len-le-length}
+use Rattle.vt_cells.specs.Width.{is_plain}
 
 prefix-all : (p : ℕ → Bool) (xs : List ℕ) → list_all p (take (prefix_len p xs) xs) ≡ true
 prefix-all p [] = refl
@@ -18,3 +20,6 @@ prefix-all p (x ∷ xs) = by (p x) refl (prefix-all p xs)
 
 pub prefix_all : (p : ℕ → Bool) (xs : List ℕ) (n : ℕ) → n ≡ prefix_len p xs → list_all p (take n xs) ≡ true
 prefix_all p xs n is = ap (λ (k : ℕ). list_all p (take k xs)) is ∙ prefix-all p xs
+
+pub plain_within : (codes : List ℕ) → prefix_len is_plain codes ≤ length codes
+plain_within codes = prefix_len-le-length is_plain codes

@@ -1,25 +1,22 @@
 -- Printable bytes, one after another.
-use Rattle.std.proofs.Common.{◌≡◌, ◌==◌, ◌&&◌, ◌||◌, ◌-◌, ◌≤◌, arith, length, zero, ℕ, Bool, true, false, suc, ◌+◌, List, [], ◌∷◌, take, refl, sym, ap, subst, ◌∙◌, cond, if◌then◌else◌}
+use Rattle.std.proofs.Common.{None, ◌≡◌, ◌==◌, ◌&&◌, ◌||◌, ◌-◌, ◌≤◌, arith, length, zero, ℕ, Bool, true, false, suc, ◌+◌, List, [], ◌∷◌, take, refl, sym, ap, subst, ◌∙◌, cond, if◌then◌else◌}
 use Rattle.std.proofs.lemmas.Bool.{and_parts, cond-true, cond-false}
 use Rattle.std.proofs.lemmas.Bool.Decides.{nat_tests}
-use Rattle.std.proofs.lemmas.List.{append-nil}
+use Rattle.std.proofs.lemmas.List.{length-take}
 use Rattle.std.specs.List.{prefix_len}
 use Rattle.vt_screen.specs.Cursor.{at_column, linefeed}
-use Rattle.vt_screen.specs.Effect.{effect}
 use Rattle.vt_cells.specs.Width.{columns}
 use Rattle.vt_screen.specs.Printing.{lacks_room, print, print_character, print_characters, with_character, after_wrap}
-use Rattle.vt_screen.specs.Run.{ScreenAndOuts, screen_effects, with_outs, then_done}
+use Rattle.vt_screen.specs.Run.{HasRun, ScreenAndOuts, run_from, screen_effects, with_outs}
 use Rattle.vt_screen.specs.Screen.{Screen, mode_of}
-use Rattle.vt_screen.specs.declared.out.Out.{Out}
 use Rattle.vt_units.specs.Answer.{answer, rest_after}
 use Rattle.vt_units.specs.Bytes.{decodes, is_printable}
 use Rattle.vt_units.specs.Laws.{PrintablesAreCharacters}
 use Rattle.vt_units.specs.Reading.{is_empty}
 use Rattle.vt_units.specs.Rest.{Rest, fresh}
-use Rattle.vt_units.specs.Run.{effects_of, make_reached, run}
+use Rattle.vt_units.specs.Run.{Reached, effects_of, make_reached, run}
 use Rattle.vt_units.specs.declared.mode.Mode.{Mode}
 use Rattle.vt_units.specs.declared.read.Read.{Read}
-use Rattle.vt_units.specs.declared.unit.Unit as units
 
 pub either_mode : (test : Bool) (s t : Screen) (m : Mode) → mode_of s ≡ m → mode_of t ≡ m
     → mode_of (cond test s t) ≡ m
@@ -58,27 +55,25 @@ pub fresh_behind : (bytes : List ℕ) (m : Mode) → rest_behind bytes m (fresh 
 fresh_behind [] m = refl
 fresh_behind (b ∷ bytes) m = refl
 
-pub printables_run : PrintablesAreCharacters → (bytes : List ℕ) (outs : List Out) (s : Screen) (rest : Rest)
+pub printables_run : PrintablesAreCharacters → (bytes : List ℕ) (s : Screen) (rest : Rest)
     → AllPrintable bytes → rest.text ≡ [] → decodes (mode_of s) ≡ true
-    → run screen_effects bytes (with_outs outs (make_reached s rest))
-    ≡ with_outs outs (make_reached (print_characters bytes s) (rest_behind bytes (mode_of s) rest))
-printables_run law [] outs s rest all nothing decoding = refl
-printables_run law (b ∷ bytes) outs s rest all nothing decoding =
+    → run_from (make_reached s rest) bytes
+    ≡ with_outs [] (make_reached (print_characters bytes s) (rest_behind bytes (mode_of s) rest))
+printables_run law [] s rest all nothing decoding = refl
+printables_run law (b ∷ bytes) s rest all nothing decoding =
     let m : Mode = mode_of s in
     let one = law rest m b nothing decoding all.0 in
-    let start : ScreenAndOuts = record { screen = s; outs = outs } in
-    let quiet : then_done (effect (units.Unit.Char b)) start ≡ record { screen = print_character b s; outs = outs } =
-    ap (λ (o : List Out). record { screen = print_character b s; outs = o }) (append-nil outs) in
+    let start : ScreenAndOuts = record { screen = s; outs = [] } in
     let same : mode_of (print_character b s) ≡ m = print_mode (columns b) b s in
     let rests : rest_behind bytes (mode_of (print_character b s)) (fresh m) ≡ fresh m =
     ap (λ (n : Mode). rest_behind bytes n (fresh m)) same ∙ fresh_behind bytes m in
     let first : make_reached (effects_of screen_effects (answer rest m b) start) (rest_after rest m b)
-    ≡ with_outs outs (make_reached (print_character b s) (fresh m)) =
+    ≡ with_outs [] (make_reached (print_character b s) (fresh m)) =
     ap (λ (r : Read). make_reached (effects_of screen_effects r start) (rest_after rest m b)) one.0
-    ∙ (λ i. make_reached (quiet i) (one.1 i)) in
+    ∙ ap (λ (r : Rest). with_outs [] (make_reached (print_character b s) r)) one.1 in
     ap (run screen_effects bytes) first
-    ∙ printables_run law bytes outs (print_character b s) (fresh m) all.1 refl (ap decodes same ∙ decoding)
-    ∙ ap (λ (r : Rest). with_outs outs (make_reached (print_characters bytes (print_character b s)) r)) rests
+    ∙ printables_run law bytes (print_character b s) (fresh m) all.1 refl (ap decodes same ∙ decoding)
+    ∙ ap (λ (r : Rest). with_outs [] (make_reached (print_characters bytes (print_character b s)) r)) rests
 
 pub prefix_printable : (bytes : List ℕ) → AllPrintable (take (prefix_len is_printable bytes) bytes)
 prefix_printable [] = tt
@@ -119,30 +114,44 @@ empty_is [] is = refl
 empty_is (b ∷ text) is = absurd (let e : ⊥ = cc in e)
 
 -- the printable bytes at the front of a text, as they are taken
-pub front_runs : PrintablesAreCharacters → (text : List ℕ) (count : ℕ) (outs : List Out) (s : Screen) (rest new : Rest)
+pub front_runs : PrintablesAreCharacters → (text : List ℕ) (count : ℕ) (s : Screen) (rest new : Rest)
     (m : Mode) → m ≡ mode_of s
     → count ≡ (if is_empty rest.text && decodes m then prefix_len is_printable text else 0)
     → count ≤ length text → new ≡ (if count == 0 then rest else fresh m)
-    → run screen_effects (take count text) (with_outs outs (make_reached s rest))
-    ≡ with_outs outs (make_reached (print_characters (take count text) s) new)
-front_runs law text count outs s rest new m mode is within left = by (is_empty rest.text && decodes m) refl
+    → run_from (make_reached s rest) (take count text)
+    ≡ with_outs [] (make_reached (print_characters (take count text) s) new)
+front_runs law text count s rest new m mode is within left = by (is_empty rest.text && decodes m) refl
   where
     by : (test : Bool) → (is_empty rest.text && decodes m) ≡ test
-        → run screen_effects (take count text) (with_outs outs (make_reached s rest))
-        ≡ with_outs outs (make_reached (print_characters (take count text) s) new)
+        → run_from (make_reached s rest) (take count text)
+        ≡ with_outs [] (make_reached (print_characters (take count text) s) new)
     by true both =
         let parts = and_parts (is_empty rest.text) (decodes m) both in
         let len : count ≡ prefix_len is_printable text = is ∙ cond-true _ _ _ both in
         let all : AllPrintable (take count text) =
         subst (λ (n : ℕ). AllPrintable (take n text)) (sym len) (prefix_printable text) in
-        printables_run law (take count text) outs s rest all (empty_is rest.text parts.0)
+        printables_run law (take count text) s rest all (empty_is rest.text parts.0)
         (ap decodes (sym mode) ∙ parts.1)
-        ∙ ap (λ (r : Rest). with_outs outs (make_reached (print_characters (take count text) s) r))
+        ∙ ap (λ (r : Rest). with_outs [] (make_reached (print_characters (take count text) s) r))
         (ap (λ (n : Mode). rest_behind (take count text) n rest) (sym mode)
         ∙ rest_is count text m rest within ∙ sym left)
     by false other =
         let none : count ≡ 0 = is ∙ cond-false _ _ _ other in
         let stays : new ≡ rest = left ∙ ap (λ (n : ℕ). if n == 0 then rest else fresh m) none in
         let nothing : take count text ≡ [] = ap (λ (n : ℕ). take n text) none in
-        ap (λ (bytes : List ℕ). run screen_effects bytes (with_outs outs (make_reached s rest))) nothing
-        ∙ (λ i. with_outs outs (make_reached (print_characters (sym nothing i) s) (sym stays i)))
+        ap (run_from (make_reached s rest)) nothing
+        ∙ (λ i. with_outs [] (make_reached (print_characters (sym nothing i) s) (sym stays i)))
+
+-- the printable bytes at the front of the first k bytes, as they are taken and drawn
+pub short_front_runs : PrintablesAreCharacters → (text : List ℕ) (k count : ℕ) (old : Reached Screen) (s drawn : Screen)
+    (rest new : Rest) (m : Mode) → make_reached s rest ≡ old → m ≡ mode_of s
+    → count ≡ (if is_empty rest.text && decodes m then prefix_len is_printable (take k text) else 0)
+    → count ≤ length (take k text) → new ≡ (if count == 0 then rest else fresh m)
+    → drawn ≡ print_characters (take count (take k text)) s
+    → HasRun old text count (make_reached drawn new) None
+short_front_runs law text k count old s drawn rest new m view mode is within left shown = (
+  omega (arith, within, length-take k text),
+  (λ i. run_from (sym view i) (take_short count k text within i))
+      ∙ front_runs law (take k text) count s rest new m mode is within left
+      ∙ ap (λ (t : Screen). with_outs [] (make_reached t new)) (sym shown),
+)

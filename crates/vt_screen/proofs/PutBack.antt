@@ -2,7 +2,7 @@
 use Rattle.std.proofs.Common.{◌≡◌, ℕ, ◌-◌, ◌==◌, ◌&&◌, ◌||◌, ◌<◌, ◌≤◌, Bool, not, true, false, List, [], ◌∷◌, max, min, refl, ap, ◌∙◌, cond, arith}
 use Rattle.std.specs.Prelude.{IsTrue}
 use Rattle.std.specs.List.{list_all}
-use Rattle.std.proofs.lemmas.Bool.{false≢true}
+use Rattle.std.proofs.lemmas.Bool.{and_parts, both_ways, not-true}
 use Rattle.vt_cells.specs.Width.{columns}
 use Rattle.vt_screen.proofs.InsideTable.{control_keeps, escape_keeps, private_keeps, sequence_keeps}
 use Rattle.vt_screen.proofs.Insides.{IsInside, coloured, colours_reset, printed_once}
@@ -20,31 +20,19 @@ use Rattle.vt_units.specs.declared.unit.Unit as units
 abbrev Still : Saved → ℕ → ℕ → Saved → ℕ → ℕ → Type 0
 Still v r c saved rows cols = (saved ≡ v) × (rows ≡ r) × (cols ≡ c)
 
-and_left : (a b : Bool) → IsTrue (a && b) → IsTrue a
-and_left true b h = refl
-and_left false b h = absurd (false≢true h)
-
-and_right : (a b : Bool) → IsTrue (a && b) → IsTrue b
-and_right true b h = h
-and_right false b h = absurd (false≢true h)
-
-denied : (a : Bool) → IsTrue (not a) → IsTrue a → ⊥
-denied true h k = false≢true h
-denied false h k = false≢true k
-
 unit_keeps : (v : Saved) (r c : ℕ) (u : units.Unit) (s : Screen) → IsTrue (leaves_saved u) → IsInside (Still v r c) s → IsInside (Still v r c) (effect u s).screen
 unit_keeps v r c (units.Unit.Char code) s leaves h = printed_once (Still v r c) (columns code) code s h
 unit_keeps v r c (units.Unit.Byte x) s leaves h = printed_once (Still v r c) 1 (character_of_byte x s) s h
 unit_keeps v r c (units.Unit.Control code) s leaves h = control_keeps (Still v r c) code s h
 unit_keeps v r c (units.Unit.Esc mid last) s leaves h =
     escape_keeps (Still v r c) mid last s
-    (λ e. absurd (denied (mid == 0 && last == 0x37) (and_left (not (mid == 0 && last == 0x37)) (not (mid == 0 && last == 0x63)) leaves) e))
-    (λ e. absurd (denied (mid == 0 && last == 0x63) (and_right (not (mid == 0 && last == 0x37)) (not (mid == 0 && last == 0x63)) leaves) e)) h
+    (λ e. absurd (both_ways (mid == 0 && last == 0x37) (not-true (mid == 0 && last == 0x37) ((and_parts (not (mid == 0 && last == 0x37)) (not (mid == 0 && last == 0x63)) leaves).0)) e))
+    (λ e. absurd (both_ways (mid == 0 && last == 0x63) (not-true (mid == 0 && last == 0x63) ((and_parts (not (mid == 0 && last == 0x37)) (not (mid == 0 && last == 0x63)) leaves).1)) e)) h
 unit_keeps v r c (units.Unit.Csi private params last) s leaves h = by private leaves
   where
     by : (test : Bool) → IsTrue (test || not (last == 0x73)) → IsInside (Still v r c) (cond test (private_sequence params last s) (control_sequence params last s)).screen
     by true k = private_keeps (Still v r c) params last s h
-    by false k = sequence_keeps (Still v r c) params last s (λ e. absurd (denied (last == 0x73) k e)) h
+    by false k = sequence_keeps (Still v r c) params last s (λ e. absurd (both_ways (last == 0x73) (not-true (last == 0x73) k) e)) h
 unit_keeps v r c (units.Unit.Colour n rgb) s leaves h = coloured (Still v r c) n rgb s h
 unit_keeps v r c units.Unit.ColourReset s leaves h = colours_reset (Still v r c) s h
 unit_keeps v r c units.Unit.Ignored s leaves h = h
@@ -52,8 +40,8 @@ unit_keeps v r c units.Unit.Ignored s leaves h = h
 units_keep : (v : Saved) (r c : ℕ) (us : List units.Unit) (s : Screen) → IsTrue (list_all leaves_saved us) → IsInside (Still v r c) s → IsInside (Still v r c) (drawn_units us s)
 units_keep v r c [] s leaves h = h
 units_keep v r c (u ∷ us) s leaves h =
-    units_keep v r c us (effect u s).screen (and_right (leaves_saved u) (list_all leaves_saved us) leaves)
-    (unit_keeps v r c u s (and_left (leaves_saved u) (list_all leaves_saved us) leaves) h)
+    units_keep v r c us (effect u s).screen ((and_parts (leaves_saved u) (list_all leaves_saved us) leaves).1)
+    (unit_keeps v r c u s ((and_parts (leaves_saved u) (list_all leaves_saved us) leaves).0) h)
 
 -- a move to where the cursor may be goes there
 there : (o : Bool) (top bottom rows y : ℕ) → y < rows → (IsTrue o → (top ≤ y) × (y ≤ bottom)) → max (cond o top 0) (min y (cond o bottom (rows - 1))) ≡ y

@@ -170,7 +170,7 @@ module _ (none : RunOfNone) (more : RunOfMore) (low : LowTakeOne) where
   pub text_scrolls : PrintablesAreCharacters → TextScrolls
   text_scrolls law rows cols text some_rows some_cols printable =
       let all : AllPrintable text = printables text printable in
-      let runs = printables_run law text [] (start_screen rows cols) (fresh start_mode) all refl refl in
+      let runs = printables_run law text (start_screen rows cols) (fresh start_mode) all refl refl in
       let shown : ShowsEnd rows cols text (print_characters text (at (filled_grid rows cols start_blank) 0 0)) =
       ends text [] [] 0 (filled_grid rows cols start_blank) 0 0 (holds_none rows cols some_rows some_cols) all (omega arith) (λ h. absurd (omega (arith, h))) in
       let from_start : ShowsEnd rows cols text (print_characters text (start_screen rows cols)) =

@@ -7,11 +7,10 @@ use Rattle.std.proofs.lemmas.Bool.Decides.{nat_tests}
 use Rattle.vt_cells.specs.Width.{LowTakeOne, columns}
 use Rattle.vt_cells.specs.declared.cell.Cell.{Cell}
 use Rattle.vt_grid.specs.Grid.{IsFull, GridView, row_at, scrolled_up, with_cell, with_run}
-use Rattle.vt_grid.specs.Halves.{with_cells_at}
+use Rattle.vt_grid.specs.Halves.{with_cells_at, IsNarrow}
 use Rattle.vt_grid.specs.Laws.{RunOfMore, RunOfNone}
 use Rattle.vt_grid.proofs.Narrow.{parted_between_same, scrolled_up_narrow}
 use Rattle.vt_screen.specs.Cursor.{at_column, at_row, linefeed, region_up}
-use Rattle.vt_grid.specs.Halves.{IsNarrow}
 use Rattle.vt_screen.specs.Printing.{with_gap, print, print_character, with_cells_at_cursor}
 use Rattle.vt_screen.specs.Screen.{Screen, erased_byte, printed_byte, start_blank, start_state}
 use Rattle.vt_screen.specs.TextRows.{start_cell, state_at}
@@ -25,7 +24,7 @@ plain g y x wrap = record { grid = g; state = record (start_state g.rows) { x = 
 abbrev pub at : GridView → ℕ → ℕ → Screen
 at g y count = record { grid = g; state = state_at g.rows g.cols y count }
 
-printable_one : LowTakeOne → (b : ℕ) → is_printable b ≡ true → columns b ≡ 1
+pub printable_one : LowTakeOne → (b : ℕ) → is_printable b ≡ true → columns b ≡ 1
 printable_one low b is =
     low b (grind (arith, nat_tests, is)) (λ same. let e : ⊥ = grind (arith, nat_tests, is, same) in e)
 

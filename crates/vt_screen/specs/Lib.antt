@@ -14,3 +14,4 @@ pub mod Screen
 pub mod Settings
 pub mod Tape
 pub mod TextRows
+pub mod Touched

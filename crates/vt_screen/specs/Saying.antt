@@ -1,9 +1,9 @@
 -- Side effects: reports, lights and requests for another console (console_codes(4)).
-use Rattle.std.specs.Prelude.{ℕ, Bool, true, false, ◌+◌, ◌-◌, ◌==◌, ◌&&◌, nat_le, nat_lt, List, ◌∷◌, ◌++◌, Option, Some, None, codes, decimal, if◌then◌else◌}
+use Rattle.std.specs.Prelude.{ℕ, ◌+◌, ◌-◌, ◌==◌, ◌&&◌, nat_le, nat_lt, List, ◌∷◌, ◌++◌, Option, Some, None, codes, decimal, if◌then◌else◌}
 use Rattle.vt_screen.specs.Screen.{Screen}
 use Rattle.vt_screen.specs.Settings.{with_pen}
 use Rattle.vt_screen.specs.declared.out.Out.{Out}
-use Rattle.vt_screen.specs.declared.out.Out.TheVariants.{Bell, Lights, Report, SwitchLast, SwitchTo}
+use Rattle.vt_screen.specs.declared.out.Out.TheVariants.{Lights, Report, SwitchLast, SwitchTo}
 
 -- the screen after a unit, and the unit's side effect
 pub record Effect : Type 0 where
@@ -15,11 +15,6 @@ without_out s = record { screen = s; said = None }
 
 abbrev pub with_out : Out → Screen → Effect
 with_out out s = record { screen = s; said = Some out }
-
--- the bell, if it rings
-abbrev pub bell_if : Bool → Option Out
-bell_if true = Some Bell
-bell_if false = None
 
 -- a report: ESC and these characters
 abbrev pub report : List ℕ → Screen → Effect

@@ -5,7 +5,6 @@ ghost use Rattle.vt_screen.specs.Effect.{effect};
 ghost use Rattle.std.specs.Borrow.{Lends, sem};
 ghost use Rattle.vt_cells.specs.contracts.palette.Palette.{the_row as palette_row};
 ghost use Rattle.vt_screen.specs.contracts.canvas.Canvas.{the_row};
-ghost use Rattle.vt_screen.specs.Run.{outs_of_option};
 ghost use Rattle.vt_screen.specs.Tape.{after_change, palette};
 ghost use Rattle.vt_screen.specs.Screen.{IsWhole, blank_of, mode_of, start_screen, with_state};
 
@@ -21,7 +20,8 @@ mod saves;
 mod sequences;
 mod settings;
 
-use crate::{BLANK, Out, Outs, ScreenState};
+use crate::said::Said;
+use crate::{BLANK, ScreenState};
 use std::marker::Model;
 use vt_cells::{Cell, Palette};
 use vt_grid::Grid;
@@ -108,23 +108,21 @@ impl Canvas {
         &mut self.state.palette
     }
 
-    /// Applies the unit. Its side effect, if it has one, is then last in `outs`.
-    pub(crate) fn dispatch(&mut self, unit: &Unit, outs: &mut Outs)
-        requires room { length outs.old < 64 }
-        ensures screen { self.new ≡ (effect unit.now self.old).screen }
-        ensures said { outs.new ≡ outs.old ++ outs_of_option (effect unit.now self.old).said }
-        ensures few { length outs.new ≤ length outs.old + 1 }
+    /// Applies the unit. `said` is then its side effect.
+    pub(crate) fn dispatch(&mut self, unit: &Unit, said: &mut Said)
+        ensures { effect unit.now self.old ≡ record { screen = self.new; said = said.new } }
     {
+        said.clear();
         match unit {
             Unit::Char(code) => self.print(*code),
             Unit::Byte(b) => self.print_cells(1, self.shown(*b)),
-            Unit::Control(code) => outs.say(Out::bell(self.control(*code))),
-            Unit::Esc { mid, last } => self.escape(*mid, *last, outs),
+            Unit::Control(code) => self.control(*code, said),
+            Unit::Esc { mid, last } => self.escape(*mid, *last, said),
             Unit::Csi {
                 private,
                 params,
                 last,
-            } => self.dispatch_sequence(*private, params.as_slice(), *last, outs),
+            } => self.dispatch_sequence(*private, params.as_slice(), *last, said),
             Unit::Colour { n, rgb } => self.set_colour(*n, *rgb),
             Unit::ColourReset => self.reset_palette(),
             Unit::Ignored => {}

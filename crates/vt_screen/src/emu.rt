@@ -1,18 +1,18 @@
-ghost use Rattle.std.specs.Prelude.{◌≡◌, ◌<◌, ◌≤◌, ◌+◌, [], List, length, take};
-ghost use Rattle.vt_screen.specs.Run.{after, screen_effects, with_outs, outs_of_run, start};
+ghost use Rattle.std.specs.Prelude.{◌≡◌, ◌<◌, ◌≤◌, [], ◌∷◌, None, length};
+ghost use Rattle.vt_screen.specs.Run.{HasRun, after, outs_of_option, outs_of_run, run_from, start, with_outs};
 ghost use Rattle.vt_screen.specs.Screen.{IsWhole};
 ghost use Rattle.std.specs.Borrow.{Lends, sem};
 ghost use Rattle.vt_cells.specs.contracts.palette.Palette.{the_row as palette_row};
 ghost use Rattle.vt_screen.specs.contracts.emu.Emu.{the_row};
 ghost use Rattle.vt_screen.specs.Tape.{palette, resize, user_map, with_change};
-ghost use Rattle.vt_screen.specs.declared.out.Out.{Out};
-ghost use Rattle.vt_units.specs.Run.{run, step};
 
+mod changes;
 mod sequences;
 
 use crate::canvas::Canvas;
 use crate::leading::line_feeds;
-use crate::{Out, Outs, ScreenState};
+use crate::said::Said;
+use crate::{Outs, ScreenState};
 use std::marker::Model;
 use vt_cells::{Cell, Palette, columns_are_few};
 use vt_grid::Grid;
@@ -67,7 +67,9 @@ impl Emu {
     {
         let mut at = 0;
         while at < b.len() {
-            at += self.take_prefix(&b[at..], outs);
+            let mut said = Said::new();
+            at += self.take_prefix(&b[at..], &mut said);
+            outs.say(said);
         }
     }
 
@@ -80,7 +82,9 @@ impl Emu {
         ensures few { length outs.new ≤ length b.now }
     {
         for byte in b {
-            self.take(*byte, outs);
+            let mut said = Said::new();
+            self.take(*byte, &mut said);
+            outs.say(said);
         }
     }
 
@@ -128,116 +132,76 @@ impl Emu {
 
     // Reads a byte and applies its result.
     #[inline(never)]
-    fn take(&mut self, byte: u8, outs: &mut Outs)
-        requires room { length outs.old < 64 }
-        ensures step { with_outs outs.new self.new ≡ step screen_effects byte (with_outs outs.old self.old) }
-        ensures room { length outs.new ≤ length outs.old + 1 }
+    fn take(&mut self, byte: u8, said: &mut Said)
+        ensures { run_from self.old (byte ∷ []) ≡ with_outs (outs_of_option said.new) self.new }
     {
+        said.clear();
         let read = self.pending.take(self.canvas.mode(), byte);
         if read.bad {
             self.canvas.print(0xFFFD);
         }
         match read.got {
-            Then::Unit(unit) => self.canvas.dispatch(&unit, outs),
-            Then::Act(code) => outs.say(Out::bell(self.canvas.control(code))),
+            Then::Unit(unit) => self.canvas.dispatch(&unit, said),
+            Then::Act(code) => self.canvas.control(code, said),
             Then::More | Then::Dropped => {}
         }
     }
 
     // Does what `take` does, by a faster way for a control character by itself.
-    fn take_quickly(&mut self, byte: u8, outs: &mut Outs)
-        requires room { length outs.old < 64 }
-        ensures step { with_outs outs.new self.new ≡ step screen_effects byte (with_outs outs.old self.old) }
-        ensures room { length outs.new ≤ length outs.old + 1 }
+    fn take_quickly(&mut self, byte: u8, said: &mut Said)
+        ensures { run_from self.old (byte ∷ []) ≡ with_outs (outs_of_option said.new) self.new }
     {
         controls_are_units();
         if !self.pending.take_control(self.canvas.mode(), byte) {
-            self.take(byte, outs);
+            self.take(byte, said);
             return;
         }
-        outs.say(Out::bell(self.canvas.control(byte)));
+        self.canvas.control(byte, said);
     }
 
     // Runs the start of the text, as much at once as possible, and returns the number of its bytes.
     #[inline(always)]
-    pub(crate) fn take_prefix(&mut self, b: &[u8], outs: &mut Outs) -> usize
-        requires some { 0 < length b.now }
-        requires room { length outs.old < 64 }
+    pub(crate) fn take_prefix(&mut self, b: &[u8], said: &mut Said) -> usize
+        requires { 0 < length b.now }
         ensures some { 0 < result }
-        ensures within { result ≤ length b.now }
-        ensures run { run screen_effects (take result b.now) (with_outs outs.old self.old)
-            ≡ with_outs outs.new self.new }
-        ensures few { length outs.new ≤ length outs.old + result }
-        ensures one { length outs.new ≤ length outs.old + 1 }
+        ensures ran { HasRun self.old b.now result self.new said.new }
     {
-        let count = self.print_prefix(b);
+        let printed = self.print_prefix(b);
+        if printed > 0 {
+            said.clear();
+            return printed;
+        }
+        let count = self.take_run(b, said);
         if count > 0 {
             return count;
         }
-        self.take_other(b, outs)
-    }
-
-    // Does what `take_prefix` does. If the start of the text isn't printed, its side effect is then alone in
-    // `outs`.
-    #[inline(always)]
-    pub(crate) fn take_next(&mut self, b: &[u8], outs: &mut Outs) -> usize
-        requires some { 0 < length b.now }
-        ensures some { 0 < result }
-        ensures within { result ≤ length b.now }
-        ensures run { self.new ≡ after self.old (take result b.now) }
-    {
-        let count = self.print_prefix(b);
-        if count > 0 {
-            return count;
-        }
-        outs.clear();
-        self.take_other(b, outs)
-    }
-
-    // Runs the start of the text, if it isn't printed at once.
-    #[inline(always)]
-    fn take_other(&mut self, b: &[u8], outs: &mut Outs) -> usize
-        requires some { 0 < length b.now }
-        requires room { length outs.old < 64 }
-        ensures some { 0 < result }
-        ensures within { result ≤ length b.now }
-        ensures run { run screen_effects (take result b.now) (with_outs outs.old self.old)
-            ≡ with_outs outs.new self.new }
-        ensures few { length outs.new ≤ length outs.old + result }
-        ensures one { length outs.new ≤ length outs.old + 1 }
-    {
-        let count = self.take_run(b, outs);
-        if count > 0 {
-            return count;
-        }
-        self.take_quickly(b[0], outs);
+        self.take_quickly(b[0], said);
         1
     }
 
     // Runs a sequence or line feeds at the start of the text, and returns the number of their bytes.
     #[inline(always)]
-    fn take_run(&mut self, b: &[u8], outs: &mut Outs) -> usize
-        requires some { 0 < length b.now }
-        requires room { length outs.old < 64 }
-        ensures within { result ≤ length b.now }
-        ensures run { run screen_effects (take result b.now) (with_outs outs.old self.old)
-            ≡ with_outs outs.new self.new }
-        ensures few { length outs.new ≤ length outs.old + result }
-        ensures one { length outs.new ≤ length outs.old + 1 }
+    fn take_run(&mut self, b: &[u8], said: &mut Said) -> usize
+        requires { 0 < length b.now }
+        ensures { HasRun self.old b.now result self.new said.new }
     {
         match b[0] {
-            0x1B => self.dispatch_short_csi(b, outs),
-            b'\n' => self.scroll_linefeeds(b),
-            _ => 0,
+            0x1B => self.take_short_csi(b, said),
+            b'\n' => {
+                said.clear();
+                self.scroll_linefeeds(b)
+            }
+            _ => {
+                said.clear();
+                0
+            }
         }
     }
 
     // Runs the line feeds at the start of the text at once, if they scroll, and returns their number.
     #[inline(never)]
     fn scroll_linefeeds(&mut self, b: &[u8]) -> usize
-        ensures within { result ≤ length b.now }
-        ensures run { (outs : List Out) → run screen_effects (take result b.now) (with_outs outs self.old)
-            ≡ with_outs outs self.new }
+        ensures { HasRun self.old b.now result self.new None }
     {
         controls_are_units();
         let count = line_feeds(b);
@@ -255,9 +219,7 @@ impl Emu {
     #[inline(always)]
     fn print_prefix(&mut self, b: &[u8]) -> usize
         requires { 0 < length b.now }
-        ensures within { result ≤ length b.now }
-        ensures run { (outs : List Out) → run screen_effects (take result b.now) (with_outs outs self.old)
-            ≡ with_outs outs self.new }
+        ensures { HasRun self.old b.now result self.new None }
     {
         if b[0] < 0x20 {
             0
@@ -271,9 +233,7 @@ impl Emu {
     // Prints whole characters at the start of the text, and returns the number of their bytes.
     #[inline(never)]
     fn print_characters(&mut self, b: &[u8]) -> usize
-        ensures within { result ≤ length b.now }
-        ensures run { (outs : List Out) → run screen_effects (take result b.now) (with_outs outs self.old)
-            ≡ with_outs outs self.new }
+        ensures { HasRun self.old b.now result self.new None }
     {
         printables_are_characters();
         let mut codes = Codes::new();
@@ -290,9 +250,7 @@ impl Emu {
     // returns their number.
     #[inline(always)]
     fn print_run(&mut self, b: &[u8]) -> usize
-        ensures within { result ≤ length b.now }
-        ensures run { (outs : List Out) → run screen_effects (take result b.now) (with_outs outs self.old)
-            ≡ with_outs outs self.new }
+        ensures { HasRun self.old b.now result self.new None }
     {
         printables_are_characters();
         columns_are_few();
@@ -309,9 +267,7 @@ impl Emu {
     // Prints the first byte, if it is printable.
     #[inline(never)]
     fn print_one(&mut self, b: &[u8]) -> usize
-        ensures within { result ≤ length b.now }
-        ensures run { (outs : List Out) → run screen_effects (take result b.now) (with_outs outs self.old)
-            ≡ with_outs outs self.new }
+        ensures { HasRun self.old b.now result self.new None }
     {
         printables_are_characters();
         let front = &b[..b.len().min(1)];

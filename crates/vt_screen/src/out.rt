@@ -1,6 +1,3 @@
-ghost use Rattle.std.specs.Prelude.{◌≡◌};
-ghost use Rattle.vt_screen.specs.Saying.{bell_if};
-
 use crate::ReportText;
 
 /// A side effect of a text.
@@ -17,13 +14,4 @@ pub enum Out {
     /// BEL. It is the default, which fills the unused places of [`crate::Outs`].
     #[default]
     Bell,
-}
-
-impl Out {
-    /// The bell, if it rings.
-    pub(crate) fn bell(rings: bool) -> Option<Out>
-        ensures { result ≡ bell_if rings }
-    {
-        if rings { Some(Out::Bell) } else { None }
-    }
 }

@@ -1,7 +1,8 @@
-ghost use Rattle.std.specs.Prelude.{◌≡◌, ◌<◌, ◌≤◌, ◌+◌, [], ◌∷◌, ◌++◌, length, IfNone, IfSome};
+ghost use Rattle.std.specs.Prelude.{◌≡◌, ◌<◌, ◌≤◌, ◌+◌, [], ◌∷◌, ◌++◌, length};
 ghost use Rattle.vt_screen.specs.Run.{outs_of_option};
 
 use crate::Out;
+use crate::said::Said;
 use arrayvec::ArrayVec;
 use std::marker::Model;
 
@@ -46,26 +47,14 @@ impl Outs {
     }
 
     /// Adds a side effect at the end, if there is one.
-    pub(crate) fn say(&mut self, said: Option<Out>)
+    pub(crate) fn say(&mut self, said: Said)
         requires { length self.old < 64 }
         ensures said { self.new ≡ self.old ++ outs_of_option said }
         ensures few { length self.new ≤ length self.old + 1 }
     {
-        if let Some(out) = said {
+        if let Some(out) = said.into_option() {
             self.items.push(out);
         }
-    }
-
-    // Removes the first side effect, if there is one.
-    #[inline(always)]
-    pub(crate) fn pop_first(&mut self) -> Option<Out>
-        ensures some { IfSome result (λ out. self.old ≡ out ∷ self.new) }
-        ensures none { IfNone result ((self.old ≡ []) × (self.new ≡ [])) }
-    {
-        if self.items.is_empty() {
-            return None;
-        }
-        Some(self.items.remove(0))
     }
 
     /// The side effects in order.

@@ -1,9 +1,10 @@
 //! A text of any length with a listener.
-ghost use Rattle.std.specs.Prelude.{◌≡◌, ◌<◌, ◌≤◌, [], length, take};
+ghost use Rattle.std.specs.Prelude.{◌≡◌, ◌<◌, ◌≤◌, length, take};
 ghost use Rattle.vt_screen.specs.Hearing.{HearsAll};
-ghost use Rattle.vt_screen.specs.Run.{after, outs_of_run};
+ghost use Rattle.vt_screen.specs.Run.{after, outs_of_option, outs_of_run};
 
-use crate::{Emu, Listener, Outs, any_cut};
+use crate::said::Said;
+use crate::{Emu, Listener, any_cut};
 
 impl Emu {
     /// Runs a text of any length on the screen, as [`Emu::write`] does. The listener gets the reports,
@@ -13,37 +14,21 @@ impl Emu {
         ensures heard { HearsAll L.hears listener.old (outs_of_run self.old b.now) listener.new }
     {
         any_cut();
-        let mut outs = Outs::new();
         let mut at = 0;
         while at < b.len() {
-            at += self.take_told(&b[at..], &mut outs, listener);
+            let mut said = Said::new();
+            at += self.take_prefix(&b[at..], &mut said);
+            tell(said, listener);
         }
-    }
-
-    // Runs the start of the text, gives the listener its side effect, and returns the number of its bytes.
-    #[inline(always)]
-    fn take_told<L: Listener>(&mut self, b: &[u8], outs: &mut Outs, listener: &mut L) -> usize
-        requires some { 0 < length b.now }
-        requires empty { outs.old ≡ [] }
-        ensures some { 0 < result }
-        ensures within { result ≤ length b.now }
-        ensures empty { outs.new ≡ [] }
-        ensures screen { self.new ≡ after self.old (take result b.now) }
-        ensures heard { HearsAll L.hears listener.old (outs_of_run self.old (take result b.now)) listener.new }
-    {
-        let count = self.take_prefix(b, outs);
-        tell(outs, listener);
-        count
     }
 }
 
-// Gives the listener the side effects of the list, in order, and empties the list.
+// Gives the listener the side effect, if there is one.
 #[inline(always)]
-fn tell<L: Listener>(outs: &mut Outs, listener: &mut L)
-    ensures empty { outs.new ≡ [] }
-    ensures heard { HearsAll L.hears listener.old outs.old listener.new }
+fn tell<L: Listener>(said: Said, listener: &mut L)
+    ensures { HearsAll L.hears listener.old (outs_of_option said) listener.new }
 {
-    while let Some(out) = outs.pop_first() {
+    if let Some(out) = said.into_option() {
         listener.hear(out);
     }
 }

@@ -2,6 +2,7 @@
 ghost use Rattle.std.specs.Prelude.{◌≡◌, ◌≤◌, [], length, take};
 ghost use Rattle.vt_screen.specs.Run.{after, outs_of_run};
 
+use crate::said::Said;
 use crate::{Emu, Outs, any_cut};
 
 impl Emu {
@@ -11,10 +12,10 @@ impl Emu {
         ensures { self.new ≡ after self.old b.now }
     {
         any_cut();
-        let mut outs = Outs::new();
+        let mut said = Said::new();
         let mut rest = b;
         while !rest.is_empty() {
-            let count = self.take_next(rest, &mut outs);
+            let count = self.take_prefix(rest, &mut said);
             rest = &rest[count..];
         }
     }
@@ -29,10 +30,12 @@ impl Emu {
         ensures all { outs.new ≡ [] → result ≡ length b.now }
     {
         outs.clear();
+        let mut said = Said::new();
         let mut at = 0;
-        while at < b.len() && outs.as_slice().len() == 0 {
-            at += self.take_prefix(&b[at..], outs);
+        while at < b.len() && said.is_none() {
+            at += self.take_prefix(&b[at..], &mut said);
         }
+        outs.say(said);
         at
     }
 }

@@ -1,7 +1,8 @@
 -- In every display a hop is due to the act that makes it.
 use Rattle.std.proofs.Common.{◌≡◌, ℕ, Bool, true, false, cond, Option, Some, None, Ok, Err, refl, sym, ap, ◌∙◌}
 use Rattle.std.specs.Prelude.{◌==◌, ◌||◌, not, IfSome}
-use Rattle.vt_switch.proofs.Lookups.{equal, named}
+use Rattle.std.proofs.lemmas.Bool.{eqb-true}
+use Rattle.vt_switch.proofs.Lookups.{named}
 use Rattle.vt_switch.specs.Acts.{Allocate, Request, Release, SetMode, SetKd, Lock, Free, End, hop_of_asked, hop_of_released}
 use Rattle.vt_switch.specs.Calls.{asked_of, inval, drop_pending, let_go, owns}
 use Rattle.vt_switch.specs.Deaths.{falls_to}
@@ -45,8 +46,8 @@ released_due d c p arg true true goes knows false waits owned one front pend = t
 released_due d c p arg true false true knows false waits owned one front pend = tt
 released_due d c p arg true false true knows true None owned one front pend = tt
 released_due d c p arg true false true knows true (Some n) owned one front pend =
-    let at : c ≡ d.front = equal c d.front front in
-    let lets : arg ≡ 1 = equal arg 1 one in
+    let at : c ≡ d.front = eqb-true c d.front front in
+    let lets : arg ≡ 1 = eqb-true arg 1 one in
     record {
       from = refl;
       because = (

@@ -1,7 +1,8 @@
 -- The display law, entry by entry.
 use Rattle.std.proofs.Common.{◌≡◌, ℕ, ◌+◌, ◌≤◌, Bool, true, false, List, [], ◌∷◌, None, refl, sym, ◌∙◌, arith}
 use Rattle.std.specs.Prelude.{◌&&◌, ◌||◌, not, length}
-use Rattle.vt_switch.proofs.Lookups.{differ, nothing}
+use Rattle.std.proofs.lemmas.Bool.{and_parts, false≢true}
+use Rattle.std.proofs.lemmas.Option.{none-some}
 use Rattle.vt_switch.proofs.Owners.{owners_live}
 use Rattle.vt_switch.proofs.Reasons.{allowed, ask, carry, moment, since_more}
 use Rattle.vt_switch.specs.Acts.{SwitchAct, Allocate, Request, Release, SetMode, SetKd, Lock, Free, End}
@@ -36,14 +37,14 @@ bound_within false e = omega arith
 by_request : (i e : ℕ) (k : Core) (h : List Moment) (act : SwitchAct) → is_request act ≡ true
     → i ≤ e + 1 → OwnersLive k → IsExplained i k h
     → IsExplained (e + 1) (core_after k act) (moment e k act ∷ h)
-by_request i e k h (Allocate n) does more owners explained = differ does
+by_request i e k h (Allocate n) does more owners explained = absurd (false≢true does)
 by_request i e k h (Request n) does more owners explained = ask i e k h n more owners explained
-by_request i e k h (Release c p arg) does more owners explained = differ does
-by_request i e k h (SetMode c p m) does more owners explained = differ does
-by_request i e k h (SetKd c graphics) does more owners explained = differ does
-by_request i e k h (Lock on) does more owners explained = differ does
-by_request i e k h (Free n) does more owners explained = differ does
-by_request i e k h (End p) does more owners explained = differ does
+by_request i e k h (Release c p arg) does more owners explained = absurd (false≢true does)
+by_request i e k h (SetMode c p m) does more owners explained = absurd (false≢true does)
+by_request i e k h (SetKd c graphics) does more owners explained = absurd (false≢true does)
+by_request i e k h (Lock on) does more owners explained = absurd (false≢true does)
+by_request i e k h (Free n) does more owners explained = absurd (false≢true does)
+by_request i e k h (End p) does more owners explained = absurd (false≢true does)
 
 explain : (e : ℕ) (asked request : Bool) (k : Core) (h : List Moment) (act : SwitchAct)
     → is_request act ≡ request → OwnersLive k → IsExplained (bound asked e) k h
@@ -59,17 +60,9 @@ explain e false false k h act is owners explained = carry e e k h act is explain
 before : (e : ℕ) (asked settle : Bool) (k : Core) (h : List Moment)
     → not (asked && settle) ≡ true → IsExplained (bound asked e) k h → settle ≡ true
     → IsExplained e k h
-before e true true k h ordered explained does = differ ordered
-before e true false k h ordered explained does = differ does
+before e true true k h ordered explained does = absurd (false≢true ordered)
+before e true false k h ordered explained does = absurd (false≢true does)
 before e false settle k h ordered explained does = explained
-
-both_left : (a b : Bool) → (a && b) ≡ true → a ≡ true
-both_left true b does = refl
-both_left false b does = does
-
-both_right : (a b : Bool) → (a && b) ≡ true → b ≡ true
-both_right true b does = does
-both_right false b does = differ does
 
 step : (e : ℕ) (asked : Bool) (k : Core) (h : List Moment) (act : SwitchAct)
     → not (asked && settles act) ≡ true → Good (bound asked e) k h
@@ -94,8 +87,8 @@ entry e asked k [] h ordered good = record {
 entry e asked k (act ∷ acts) h ordered good =
     let rest = is_ordered (asked || is_request act) acts in
     entry e (asked || is_request act) (core_after k act) acts (moment e k act ∷ h)
-    (both_right (not (asked && settles act)) rest ordered)
-    (step e asked k h act (both_left (not (asked && settles act)) rest ordered) good)
+    ((and_parts (not (asked && settles act)) rest ordered).1)
+    (step e asked k h act ((and_parts (not (asked && settles act)) rest ordered).0) good)
 
 entries : (i : ℕ) (k : Core) (list : List (List SwitchAct)) (h : List Moment) → AllOrdered list
     → Good i k h → Good (i + length list) (after_entries k list) (history i k list h)
@@ -122,7 +115,7 @@ from_nothing : (k : Core) (list : List (List SwitchAct)) → OwnersLive k → k.
 from_nothing k list owners none ordered =
     entries 0 k list [] ordered
     (record {
-      explained = λ n waits. nothing n (sym none ∙ waits);
+      explained = λ n waits. absurd (none-some n (sym none ∙ waits));
       owners = owners;
       lawful = tt;
     })

@@ -3,7 +3,7 @@ mod Hops
 mod Lawful
 mod Lookups
 mod Marks
-mod Owners
+pub mod Owners
 mod Reasons
 mod Sets
 mod Sound

@@ -1,6 +1,7 @@
 -- Places of lists, and small facts on tests and options.
-use Rattle.std.proofs.Common.{◌≡◌, ◌≢◌, ℕ, zero, suc, Bool, true, false, true≢false, List, [], ◌∷◌, get_or, set, Option, Some, None, refl, sym, ap, ◌∙◌, arith}
-use Rattle.std.specs.Prelude.{◌==◌, ◌&&◌, ◌||◌, is_some}
+use Rattle.std.proofs.Common.{◌≡◌, ◌≢◌, ℕ, zero, suc, true, false, List, [], ◌∷◌, get_or, set, Option, Some, None, refl, sym, ap}
+use Rattle.std.specs.Prelude.{◌==◌}
+use Rattle.std.proofs.lemmas.Bool.{eqb-false, eqb-true, false≢true}
 use Rattle.vt_switch.specs.Calls.{names}
 
 -- a place after a write is what was written or as it was
@@ -21,35 +22,9 @@ set_alike look (x ∷ xs) zero (suc j) a d same = refl
 set_alike look (x ∷ xs) (suc i) zero a d same = refl
 set_alike look (x ∷ xs) (suc i) (suc j) a d same = set_alike look xs i j a d same
 
-pub nothing : {X : Type 0} (n : ℕ) → None ≡ Some n → X
-nothing n same = absurd (true≢false (sym (ap (λ (o : Option ℕ). is_some o) same)))
-
-pub differ : {X : Type 0} → false ≡ true → X
-differ same = absurd (true≢false (sym same))
-
-or_else : ℕ → Option ℕ → ℕ
-or_else n None = n
-or_else n (Some m) = m
-
-pub same_number : (n m : ℕ) → Some n ≡ Some m → n ≡ m
-unfolding or_else
-same_number n m same = ap (or_else n) same
-
-pub equal : (n m : ℕ) → (n == m) ≡ true → n ≡ m
-equal n m same = grind (arith, same)
-
 pub unequal : (n m : ℕ) → (n == m) ≡ false → m ≢ n
-unequal n m other same =
-    let here : (n == m) ≡ true = grind (arith, same) in true≢false (sym here ∙ other)
+unequal n m other same = eqb-false n m other (sym same)
 
 pub named : (p : ℕ) (o : Option ℕ) → names p o ≡ true → o ≡ Some p
-named p None is = differ is
-named p (Some n) is = ap Some (equal n p is)
-
-pub and_false : (a b : Bool) → b ≡ false → (a && b) ≡ false
-and_false true b isnt = isnt
-and_false false b isnt = refl
-
-pub or_left : (a b : Bool) → (a || b) ≡ false → a ≡ false
-or_left true b isnt = isnt
-or_left false b isnt = refl
+named p None is = absurd (false≢true is)
+named p (Some n) is = ap Some (eqb-true n p is)

@@ -3,9 +3,10 @@ use Rattle.std.proofs.Common.{◌≡◌, ℕ, Bool, true, false, cond, List, get
 use Rattle.std.proofs.Math.ListN.{get_or-map}
 use Rattle.std.proofs.lemmas.List.{get_or-set_other}
 use Rattle.std.specs.Prelude.{◌==◌, option_map}
+use Rattle.std.proofs.lemmas.Option.{none-some, same_Some}
 use Rattle.vt_base.specs.declared.inval.Inval.{Inval}
 use Rattle.vt_base.specs.declared.vt_mode.VtMode.{VtMode}
-use Rattle.vt_switch.proofs.Lookups.{nothing, same_number, set_either, unequal}
+use Rattle.vt_switch.proofs.Lookups.{set_either, unequal}
 use Rattle.vt_switch.proofs.Sound.{given_back}
 use Rattle.vt_switch.proofs.Stays.{owner_in, with_graphics, with_handling}
 use Rattle.vt_switch.specs.Acts.{SwitchAct, Allocate, Request, Release, SetMode, SetKd, Lock, Free, End}
@@ -38,22 +39,22 @@ same_live : (live : List Bool) (old new : List (Option Console)) → new ≡ old
     → AllLive live old → AllLive live new
 same_live live old new same all = subst (AllLive live) (sym same) all
 
-asked_same : (d : Display) (n : ℕ) (a : Asked) → (after_asked d n a).consoles ≡ d.consoles
+pub asked_same : (d : Display) (n : ℕ) (a : Asked) → (after_asked d n a).consoles ≡ d.consoles
 asked_same d n (Hopped hop) = refl
 asked_same d n (Signalled owner signal) = refl
 asked_same d n Ignored = refl
 
-either_same : (b : Bool) (d e : Display) → d.consoles ≡ e.consoles → (cond b d e).consoles ≡ e.consoles
+pub either_same : (b : Bool) (d e : Display) → d.consoles ≡ e.consoles → (cond b d e).consoles ≡ e.consoles
 either_same true d e same = same
 either_same false d e same = refl
 
-released_same : (d : Display) (arg : ℕ) (r : Result (Option Hop) Inval)
+pub released_same : (d : Display) (arg : ℕ) (r : Result (Option Hop) Inval)
     → (after_released d arg r).consoles ≡ d.consoles
 released_same d arg (Ok (Some hop)) = refl
 released_same d arg (Ok None) = either_same (arg == 0) (record d { pending = None }) d refl
 released_same d arg (Err refused) = refl
 
-hop_same : (d : Display) (hop : Option Hop) → (after_hop d hop).consoles ≡ d.consoles
+pub hop_same : (d : Display) (hop : Option Hop) → (after_hop d hop).consoles ≡ d.consoles
 hop_same d None = refl
 hop_same d (Some hop) = refl
 
@@ -65,18 +66,18 @@ handler (Some handling) = owner_of handling
 by_process : (p q : ℕ) (m : VtMode) (relsig acqsig : Option ℕ) (h : Handling)
     → process_of p m relsig acqsig ≡ Some h → owner_of h ≡ Some q → p ≡ q
 by_process p q m (Some relsig) (Some acqsig) h is owned =
-    same_number p q (ap handler is ∙ owned)
-by_process p q m (Some relsig) None h is owned = nothing q (ap handler is ∙ owned)
-by_process p q m None acqsig h is owned = nothing q (ap handler is ∙ owned)
+    same_Some p q (ap handler is ∙ owned)
+by_process p q m (Some relsig) None h is owned = absurd (none-some q (ap handler is ∙ owned))
+by_process p q m None acqsig h is owned = absurd (none-some q (ap handler is ∙ owned))
 
 by_words : (p q : ℕ) (m : VtMode) (auto process : Bool) (words : Words) (h : Handling)
     → cond auto (Some (Auto words))
     (cond process (process_of p m (signal_of m.relsig) (signal_of m.acqsig)) None) ≡ Some h
     → owner_of h ≡ Some q → p ≡ q
-by_words p q m true process words h is owned = nothing q (ap handler is ∙ owned)
+by_words p q m true process words h is owned = absurd (none-some q (ap handler is ∙ owned))
 by_words p q m false true words h is owned =
     by_process p q m (signal_of m.relsig) (signal_of m.acqsig) h is owned
-by_words p q m false false words h is owned = nothing q (ap handler is ∙ owned)
+by_words p q m false false words h is owned = absurd (none-some q (ap handler is ∙ owned))
 
 sets_itself : (p q : ℕ) (m : VtMode) (h : Handling) → handling_of p m ≡ Some h
     → owner_of h ≡ Some q → p ≡ q
@@ -87,7 +88,7 @@ sets_itself p q m h is owned =
 handled_lives : (live : List Bool) (p : ℕ) (m : VtMode) (h : Handling) (place : Option Console)
     → handling_of p m ≡ Some h → get_or live p false ≡ true
     → Lives live (option_map (with_handling h) place)
-handled_lives live p m h None is lives q owned = nothing q owned
+handled_lives live p m h None is lives q owned = absurd (none-some q owned)
 handled_lives live p m h (Some console) is lives q owned =
     subst (λ r. get_or live r false ≡ true) (sets_itself p q m h is owned) lives
 
@@ -108,14 +109,14 @@ mode_live k c p m true (Some h) is sets all =
 
 shown_lives : (live : List Bool) (graphics : Bool) (place : Option Console) → Lives live place
     → Lives live (option_map (with_graphics graphics) place)
-shown_lives live graphics None all q owned = nothing q owned
+shown_lives live graphics None all q owned = absurd (none-some q owned)
 shown_lives live graphics (Some console) all q owned = all q owned
 
 free_live : (k : Core) (c : ℕ) (held : Bool) → AllLive k.live k.display.consoles
     → AllLive k.live (cond held k.display (without_console k.display c)).consoles
 free_live k c true all = all
 free_live k c false all =
-    set_live k.live k.display.consoles c None all (λ q owned. nothing q owned)
+    set_live k.live k.display.consoles c None all (λ q owned. absurd (none-some q owned))
 
 -- after the end of p, the owner in a place is another, who lives
 by_left : (live : List Bool) (p q : ℕ) (mine : Bool) (console : Console)
@@ -123,14 +124,14 @@ by_left : (live : List Bool) (p q : ℕ) (mine : Bool) (console : Console)
     → ((r : ℕ) → owner_of console.handling ≡ Some r → get_or live r false ≡ true)
     → owner_of (cond mine fresh console).handling ≡ Some q
     → get_or (set live p false) q false ≡ true
-by_left live p q true console is all owned = nothing q owned
+by_left live p q true console is all owned = absurd (none-some q owned)
 by_left live p q false console is all owned =
     let other : (q == p) ≡ false = sym (ap (names p) owned) ∙ is in
     get_or-set_other live p q false false (λ same. unequal q p other (sym same)) ∙ all q owned
 
 left_lives : (live : List Bool) (p : ℕ) (place : Option Console) → Lives live place
     → Lives (set live p false) (option_map (left_by p) place)
-left_lives live p None all q owned = nothing q owned
+left_lives live p None all q owned = absurd (none-some q owned)
 left_lives live p (Some console) all q owned =
     by_left live p q (names p (owner_of console.handling)) console refl all owned
 

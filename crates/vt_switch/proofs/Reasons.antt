@@ -1,7 +1,7 @@
 -- The reason of a hop, and the display after a request.
 use Rattle.std.proofs.Common.{◌≡◌, ℕ, ◌+◌, ◌≤◌, Bool, true, false, cond, List, [], ◌∷◌, ◌++◌, Option, Some, None, refl, sym, ap, subst, ◌∙◌, inl, inr, arith}
 use Rattle.std.specs.Prelude.{◌==◌, ◌||◌, not, IfSome, option_to_list}
-use Rattle.vt_switch.proofs.Lookups.{nothing, same_number}
+use Rattle.std.proofs.lemmas.Option.{none-some, same_Some}
 use Rattle.vt_switch.proofs.Due.{hops_are_due}
 use Rattle.vt_switch.proofs.Marks.{hops_of_marks}
 use Rattle.vt_switch.proofs.Stays.{Stays, stays}
@@ -83,7 +83,7 @@ abbrev pair : ℕ → ℕ → Option (ℕ × ℕ)
 pair o s = Some (o, s)
 
 none_pair : {X : Type 0} (o s : ℕ) → None ≡ pair o s → X
-none_pair o s same = nothing o (ap first_of same)
+none_pair o s same = absurd (none-some o (ap first_of same))
 
 by_tests : (d : Display) (n owner signal : ℕ) (there front locked : Bool)
     → is_allocated d n ≡ there
@@ -124,7 +124,7 @@ ask_by : (i e : ℕ) (k : Core) (h : List Moment) (n : ℕ) (a : Asked) → requ
     → (core_after k (Request n)).display.pending ≡ Some w
     → WasAskedFor (e + 1) (core_after k (Request n)) (moment e k (Request n) ∷ h) w
 ask_by i e k h n (Hopped hop) is more owners explained w waits =
-    nothing w (sym (ap (λ (a : Asked). (after_asked k.display n a).pending) is) ∙ waits)
+    absurd (none-some w (sym (ap (λ (a : Asked). (after_asked k.display n a).pending) is) ∙ waits))
 ask_by i e k h n Ignored is more owners explained w waits =
     let d = k.display in
     let m : Moment = moment e k (Request n) in
@@ -151,7 +151,7 @@ ask_by i e k h n (Signalled owner signal) is more owners explained w waits =
     let left_is : (core_after k (Request n)).display ≡ record d { pending = Some n } =
     ap (λ (a : Asked). after_asked d n a) is in
     let target : n ≡ w =
-    same_number n w (sym (ap (λ (x : Display). x.pending) left_is) ∙ waits) in
+    same_Some n w (sym (ap (λ (x : Display). x.pending) left_is) ∙ waits) in
     let asks : Asks d n owner signal =
     by_tests d n owner signal (is_allocated d n) (n == d.front) d.locked refl is in
     let owned : owner_of (console d d.front).handling ≡ Some owner =
@@ -188,7 +188,7 @@ handed m h p n explained goes =
       owner = goes.owner;
       waits = goes.waits;
       asked = subst (λ owner. Since (Quiet d.front n) (Raises m.entry d.front owner n) h)
-          (same_number w.owner p (sym w.owned ∙ goes.owner)) w.asked;
+          (same_Some w.owner p (sym w.owned ∙ goes.owner)) w.asked;
     }
 
 -- a hop that is due was allowed, where what waits is explained before a release or an end

@@ -3,6 +3,7 @@ use Rattle.std.proofs.Common.{◌≡◌, ℕ, Bool, true, false, cond, List, get
 use Rattle.std.proofs.Math.ListN.{get_or-map}
 use Rattle.std.proofs.lemmas.List.{get_or-set_other}
 use Rattle.std.specs.Prelude.{◌==◌, IfSome, is_some, option_map}
+use Rattle.std.proofs.lemmas.Option.{IfSome_then}
 use Rattle.vt_switch.proofs.Lookups.{set_either, unequal}
 use Rattle.vt_switch.specs.Calls.{names, owns}
 use Rattle.vt_switch.specs.Deaths.{after_hop, falls_to, left_by}
@@ -14,10 +15,6 @@ use Rattle.vt_switch.specs.declared.hop.Hop.{Hop}
 kept : {A : Type 0} (f : A → A) (o : Option A) → is_some (option_map f o) ≡ is_some o
 kept f None = refl
 kept f (Some a) = refl
-
-if_some : {A : Type 0} (P Q : A → Type 0) (o : Option A) → ((a : A) → P a → Q a) → IfSome o P → IfSome o Q
-if_some P Q None more holds = tt
-if_some P Q (Some a) more holds = more a holds
 
 none_waits : (d : Display) (P : ℕ → Type 0) → d.pending ≡ None → IfSome d.pending P
 none_waits d P none = subst (λ (o : Option ℕ). IfSome o P) (sym none) tt
@@ -36,15 +33,7 @@ reset_sound d c sound (inl none) = record {
 }
 reset_sound d c sound (inr other) = record {
   has_front = set_either IsTaken d.consoles c d.front (Some fresh) None refl sound.has_front;
-  has_pending = if_some (MayWait d) (MayWait (as_new d c)) d.pending
-      (λ n waits. record {
-        is_there = set_either IsTaken d.consoles c n (Some fresh) None refl waits.is_there;
-        apart = waits.apart;
-        asked = ap (λ (o : Option Console). is_some (owner_of (or_fresh o).handling))
-            (get_or-set_other d.consoles c d.front (Some fresh) None (unequal c d.front other))
-            ∙ waits.asked;
-      })
-      sound.has_pending;
+  has_pending = IfSome_then d.pending {P = MayWait d} {Q = MayWait (as_new d c)} sound.has_pending (λ n waits. record { is_there = set_either IsTaken d.consoles c n (Some fresh) None refl waits.is_there; apart = waits.apart; asked = ap (λ (o : Option Console). is_some (owner_of (or_fresh o).handling)) (get_or-set_other d.consoles c d.front (Some fresh) None (unequal c d.front other)) ∙ waits.asked });
 }
 
 abbrev pub given_back : Display → ℕ → Display
@@ -69,17 +58,7 @@ leave_sound d p sound (inl none) = record {
 }
 leave_sound d p sound (inr other) = record {
   has_front = taken p d.consoles d.front sound.has_front;
-  has_pending = if_some (MayWait d) (MayWait (given_back d p)) d.pending
-      (λ n waits. record {
-        is_there = taken p d.consoles n waits.is_there;
-        apart = waits.apart;
-        asked = ap (λ (o : Option Console). is_some (owner_of (or_fresh o).handling))
-            (get_or-map (option_map (left_by p)) d.consoles d.front None)
-            ∙ ap (λ (console : Console). is_some (owner_of console.handling))
-            (still p (get_or d.consoles d.front None) other)
-            ∙ waits.asked;
-      })
-      sound.has_pending;
+  has_pending = IfSome_then d.pending {P = MayWait d} {Q = MayWait (given_back d p)} sound.has_pending (λ n waits. record { is_there = taken p d.consoles n waits.is_there; apart = waits.apart; asked = ap (λ (o : Option Console). is_some (owner_of (or_fresh o).handling)) (get_or-map (option_map (left_by p)) d.consoles d.front None) ∙ ap (λ (console : Console). is_some (owner_of console.handling)) (still p (get_or d.consoles d.front None) other) ∙ waits.asked });
 }
 
 -- after the display fell to what waited: nothing waits, or the front is another's

@@ -1,12 +1,14 @@
 -- The state after an act that requests nothing, if a console waits after it: the console in front, its owner,
 -- and the console that waits are unchanged.
-use Rattle.std.proofs.Common.{◌≡◌, ℕ, Bool, true, false, cond, List, get_or, Option, Some, None, Result, Ok, Err, refl, sym, ap, subst, ◌∙◌}
+use Rattle.std.proofs.Common.{◌≡◌, ℕ, Bool, true, false, cond, List, get_or, Option, Some, None, Result, Ok, Err, refl, rules, sym, ap, subst, ◌∙◌}
 use Rattle.std.proofs.Math.ListN.{get_or-map}
 use Rattle.std.proofs.lemmas.List.{get_or-set_other}
 use Rattle.std.specs.Prelude.{◌==◌, ◌&&◌, ◌||◌, not, is_some, option_map}
+use Rattle.std.proofs.lemmas.Bool.{and_right, false≢true, or_parts}
+use Rattle.std.proofs.lemmas.Option.{none-some}
 use Rattle.vt_base.specs.declared.inval.Inval.{Inval}
 use Rattle.vt_base.specs.declared.vt_mode.VtMode.{VtMode}
-use Rattle.vt_switch.proofs.Lookups.{and_false, differ, nothing, or_left, set_alike, unequal}
+use Rattle.vt_switch.proofs.Lookups.{set_alike, unequal}
 use Rattle.vt_switch.proofs.Sound.{given_back, still}
 use Rattle.vt_switch.specs.Acts.{SwitchAct, Allocate, Request, Release, SetMode, SetKd, Lock, Free, End, hop_of, hop_of_released}
 use Rattle.vt_switch.specs.Calls.{after_mode, after_released, without_console, with_console_handling, handling_of, inval, is_held, drop_pending, let_go, names, owns, pending_at}
@@ -55,7 +57,7 @@ refused d arg n here keeps waits = record {
   front = refl;
   consoles = refl;
   waits = waits;
-  no_refusal = and_false here (keeps && false) (and_false keeps false refl);
+  no_refusal = and_right here (keeps && false) (and_right keeps false refl);
   no_hop = refl;
 }
 
@@ -67,16 +69,15 @@ by_release : (d : Display) (p arg n : ℕ) (here other keeps goes knows : Bool) 
 by_release d p arg n here true keeps goes knows waits is left = refused d arg n here keeps left
 by_release d p arg n here false true goes knows None is left = refused d arg n here true left
 by_release d p arg n here false true goes knows (Some w) is left =
-    nothing n
-    (subst (λ b. (cond b (record d { pending = None }) d).pending ≡ Some n) is left)
+    absurd (none-some n (subst (λ b. (cond b (record d { pending = None }) d).pending ≡ Some n) is left))
 by_release d p arg n here false false true knows None is left =
     refused d arg n here false left
-by_release d p arg n here false false true knows (Some w) is left = nothing n left
+by_release d p arg n here false false true knows (Some w) is left = absurd (none-some n left)
 by_release d p arg n here false false false true waits is left = record {
   front = ap (λ b. (cond b (record d { pending = None }) d).front) is;
   consoles = ap (λ b. (cond b (record d { pending = None }) d).consoles) is;
   waits = subst (λ b. (cond b (record d { pending = None }) d).pending ≡ Some n) is left;
-  no_refusal = and_false here false refl;
+  no_refusal = and_right here false refl;
   no_hop = refl;
 }
 by_release d p arg n here false false false false waits is left =
@@ -108,7 +109,7 @@ record Moded (d e : Display) (n : ℕ) (here accepted : Bool) : Type 0 where
 by_handling : (d : Display) (c n : ℕ) (here : Bool) (h : Handling) → (c == d.front) ≡ here
     → (cond here (record (with_console_handling d c h) { pending = None }) (with_console_handling d c h)).pending ≡ Some n
     → Moded d (cond here (record (with_console_handling d c h) { pending = None }) (with_console_handling d c h)) n here true
-by_handling d c n true h is left = nothing n left
+by_handling d c n true h is left = absurd (none-some n left)
 by_handling d c n false h is left =
     record {
       front = refl;
@@ -127,13 +128,13 @@ by_mode k c n false h left = record {
   front = refl;
   owner = refl;
   waits = left;
-  no_mode = and_false (c == k.display.front) false refl;
+  no_mode = and_right (c == k.display.front) false refl;
 }
 by_mode k c n true None left = record {
   front = refl;
   owner = refl;
   waits = left;
-  no_mode = and_false (c == k.display.front) false refl;
+  no_mode = and_right (c == k.display.front) false refl;
 }
 by_mode k c n true (Some h) left =
     by_handling k.display c n (c == k.display.front) h refl left
@@ -141,15 +142,7 @@ by_mode k c n true (Some h) left =
 mode_stays : (k : Core) (c p n : ℕ) (m : VtMode)
     → (core_after k (SetMode c p m)).display.pending ≡ Some n → Stays k (SetMode c p m) n
 mode_stays k c p n m left =
-    let l = by_mode k c n (is_live k p) (handling_of p m) left in
-    record {
-      front = l.front;
-      owner = l.owner;
-      waits = l.waits;
-      no_mode = l.no_mode;
-      no_refusal = refl;
-      no_hop = refl;
-    }
+    let l = by_mode k c n (is_live k p) (handling_of p m) left in search rules
 
 allocate_stays : (k : Core) (c n : ℕ)
     → (core_after k (Allocate c)).display.pending ≡ Some n → Stays k (Allocate c) n
@@ -205,9 +198,7 @@ by_free : (d : Display) (c n : ℕ) (held : Bool) → is_held d c ≡ held
 by_free d c n true is left = record { front = refl; owner = refl; waits = left }
 by_free d c n false is left =
     let other : (c == d.front) ≡ false =
-    or_left (c == d.front) (names c d.pending)
-    (or_left (c == d.front || names c d.pending)
-    (is_some (owner_of (console d c).handling)) is) in
+    (or_parts (c == d.front) (names c d.pending) ((or_parts (c == d.front || names c d.pending) (is_some (owner_of (console d c).handling)) is).0)).0 in
     record {
       front = refl;
       owner = ap owner_in
@@ -218,15 +209,7 @@ by_free d c n false is left =
 free_stays : (k : Core) (c n : ℕ)
     → (core_after k (Free c)).display.pending ≡ Some n → Stays k (Free c) n
 free_stays k c n left =
-    let f = by_free k.display c n (is_held k.display c) refl left in
-    record {
-      front = f.front;
-      owner = f.owner;
-      waits = f.waits;
-      no_mode = refl;
-      no_refusal = refl;
-      no_hop = refl;
-    }
+    let f = by_free k.display c n (is_held k.display c) refl left in search rules
 
 record Ended (d e : Display) (n : ℕ) (hop : Option Hop) : Type 0 where
   front : e.front ≡ d.front
@@ -239,8 +222,8 @@ by_end : (d : Display) (p n : ℕ) (front : Bool) (pending : Option ℕ) → own
     → (after_hop (given_back d p) (cond front (falls_to d p pending) None)).pending ≡ Some n
     → Ended d (after_hop (given_back d p) (cond front (falls_to d p pending) None)) n
     (cond front (falls_to d p pending) None)
-by_end d p n true None is none left = nothing n (sym none ∙ left)
-by_end d p n true (Some w) is none left = nothing n left
+by_end d p n true None is none left = absurd (none-some n (sym none ∙ left))
+by_end d p n true (Some w) is none left = absurd (none-some n left)
 by_end d p n false pending is none left = record {
   front = refl;
   owner = ap owner_in (get_or-map (option_map (left_by p)) d.consoles d.front None)
@@ -254,20 +237,12 @@ end_stays : (k : Core) (p n : ℕ)
     → (core_after k (End p)).display.pending ≡ Some n → Stays k (End p) n
 end_stays k p n left =
     let d = k.display in
-    let e = by_end d p n (owns d p d.front) d.pending refl refl left in
-    record {
-      front = e.front;
-      owner = e.owner;
-      waits = e.waits;
-      no_mode = refl;
-      no_refusal = refl;
-      no_hop = e.no_hop;
-    }
+    let e = by_end d p n (owns d p d.front) d.pending refl refl left in search rules
 
 pub stays : (k : Core) (act : SwitchAct) (n : ℕ) → is_request act ≡ false
     → (core_after k act).display.pending ≡ Some n → Stays k act n
 stays k (Allocate c) n isnt left = allocate_stays k c n left
-stays k (Request c) n isnt left = differ (sym isnt)
+stays k (Request c) n isnt left = absurd (false≢true (sym isnt))
 stays k (Release c p arg) n isnt left = release_stays k c p arg n left
 stays k (SetMode c p m) n isnt left = mode_stays k c p n m left
 stays k (SetKd c graphics) n isnt left = kd_stays k c n graphics left

@@ -1,6 +1,6 @@
 -- The news of an act's trace: one at most.
 use Rattle.std.proofs.Common.{◌≡◌, ◌≤◌, ℕ, Bool, true, false, cond, List, [], ◌∷◌, ◌++◌, length, Option, Some, None, refl, sym, ap, subst, ◌∙◌, lit≤}
-use Rattle.vt_switch.proofs.Lookups.{differ}
+use Rattle.std.proofs.lemmas.Bool.{false≢true}
 use Rattle.vt_switch.specs.Acts.{SwitchAct, Allocate, Request, Release, SetMode, SetKd, Lock, Free, End, hop_of, hop_of_asked}
 use Rattle.vt_switch.specs.Calls.{request_outcome}
 use Rattle.vt_switch.specs.Display.{console, is_allocated}
@@ -37,7 +37,7 @@ hop_tells k (Some hop) =
 pub quiet_tells : (k : Core) (act : SwitchAct) → is_request act ≡ false
     → news (marks k act) ≡ going (hop_of k.display act)
 quiet_tells k (Allocate n) isnt = refl
-quiet_tells k (Request n) isnt = differ (sym isnt)
+quiet_tells k (Request n) isnt = absurd (false≢true (sym isnt))
 quiet_tells k (Release c p arg) isnt =
     hop_tells (core_after k (Release c p arg)) (hop_of k.display (Release c p arg))
 quiet_tells k (SetMode c p m) isnt = refl

@@ -4,6 +4,7 @@ use Rattle.std.specs.Prelude.{nat_lt}
 use Rattle.std.proofs.lemmas.Bool.{and_left, and_parts, and_right, cases_Bool, cond-true, cond-false, eqb-true, not-true, or_from, or_parts}
 use Rattle.std.proofs.lemmas.Bool.Decides.{nat_tests}
 use Rattle.std.proofs.lemmas.List.{append-nil, append_assoc, length-append, length-take, take_at, take-take}
+use Rattle.std.proofs.lemmas.Option.{none-some}
 use Rattle.vt_chars.specs.Utf8.{within}
 use Rattle.vt_units.proofs.Follows.{admits}
 use Rattle.vt_units.proofs.Fronts.{each_push}
@@ -16,7 +17,10 @@ use Rattle.vt_units.specs.Bytes.{acts, interrupts, is_body, is_mid, opens_string
 use Rattle.vt_units.specs.Laws.{ComeTo, IsUnitOf, SequencesAreUnits}
 use Rattle.vt_units.specs.Numbers.{params_of}
 use Rattle.vt_units.specs.Reading.{Reading, after_prefix, longest_prefix, is_empty, reading, sequence, text_reading, unfinished, whole}
-use Rattle.vt_units.specs.Rest.{Rest, fresh}
+use Rattle.vt_units.specs.Rest.{Rest, fresh, start_mode}
+use Rattle.vt_units.specs.ShortSequences.{csi_in, sgr_in}
+use Rattle.vt_units.specs.declared.long_sgr.LongSgr.{LongSgr}
+use Rattle.vt_units.specs.declared.short_csi.ShortCsi.{ShortCsi}
 use Rattle.vt_units.specs.Sequences.{control_unit, is_parameter, numbered_unit}
 use Rattle.vt_units.specs.ParserState.{Each, rest_of}
 use Rattle.vt_units.specs.declared.mode.Mode.{Mode}
@@ -31,12 +35,7 @@ answer_of s b = record { bad = s.bad; got = (byte_outcome s.rest b).got }
 -- a byte that is admitted neither acts nor interrupts nor is DEL
 pub admitted_quiet : (m : Mode) (b : ℕ) → admits b ≡ true
     → (acts b ≡ false) × (interrupts m b ≡ false) × ((b == 0x7F) ≡ false)
-admitted_quiet m b is =
-    let low : nat_lt b 0x20 ≡ false = grind (arith, nat_tests) in
-    let esc : (b == 0x1B) ≡ false = grind (arith, nat_tests) in
-    let csi : (b == 0x9B) ≡ false = grind (arith, nat_tests) in
-    let del : (b == 0x7F) ≡ false = grind (arith, nat_tests) in
-    (and_left _ _ low, or_from _ _ esc (and_left _ _ csi), del)
+admitted_quiet m b is = grind (arith, nat_tests)
 
 -- what a byte comes to
 abbrev pub Gives : Mode → Rest → ℕ → then.Then → Rest → Type 0
@@ -284,12 +283,9 @@ module _ (m : Mode) (old : Rest) (nothing : old.text ≡ []) where
       (ap (λ (t : Sequence). t.count) has.found ∙ omega arith)
       (subst (λ (bytes : List ℕ). length bytes ≤ 256) all short))
 
-  never : (s : Sequence) → None ≡ Some s → ⊥
-  never s e = cc
-
   control-found : (text : List ℕ) (s : Sequence) → length (behind_csi text) ≤ 256
       → control_ahead text ≡ Some s → IsUnitOf m old (behind_csi text) s
-  control-found [] s short found = absurd (never s found)
+  control-found [] s short found = absurd (none-some s found)
   control-found (b ∷ text) s short found = ⊎_elim
       (λ (mark : (b == 0x3F) ≡ true).
       let sign : b ≡ 0x3F = eqb-true b 0x3F mark in
@@ -300,13 +296,13 @@ module _ (m : Mode) (old : Rest) (nothing : old.text ≡ []) where
 
   mid-found : (mid : ℕ) (text : List ℕ) (s : Sequence) → is_mid mid ≡ true → mid_ahead mid text ≡ Some s
       → IsUnitOf m old (0x1B ∷ mid ∷ text) s
-  mid-found mid [] s is found = absurd (never s found)
+  mid-found mid [] s is found = absurd (none-some s found)
   mid-found mid (last ∷ text) s is found = ⊎_elim
       (λ (ends : within 0x30 0x7E last ≡ true).
       let same : Some (record { unit = Esc mid last; count = 3 }) ≡ Some s = sym (cond-true _ _ _ ends) ∙ found in
       let one : record { unit = Esc mid last; count = 3 } ≡ s = cc in
       subst (IsUnitOf m old (0x1B ∷ mid ∷ last ∷ text)) one (escape-three m old nothing mid last text is ends))
-      (λ (other : within 0x30 0x7E last ≡ false). absurd (never s (sym (cond-false _ _ _ other) ∙ found)))
+      (λ (other : within 0x30 0x7E last ≡ false). absurd (none-some s (sym (cond-false _ _ _ other) ∙ found)))
       (cases_Bool (within 0x30 0x7E last))
 
   plain-found : (b : ℕ) (text : List ℕ) (s : Sequence) → is_mid b ≡ false
@@ -317,7 +313,7 @@ module _ (m : Mode) (old : Rest) (nothing : old.text ≡ []) where
       let same : Some (record { unit = Esc 0 b; count = 2 }) ≡ Some s = sym (cond-true _ _ _ ends) ∙ found in
       let one : record { unit = Esc 0 b; count = 2 } ≡ s = cc in
       subst (IsUnitOf m old (0x1B ∷ b ∷ text)) one (escape-two m old nothing b text ends mid))
-      (λ (other : ends_escape b ≡ false). absurd (never s (sym (cond-false _ _ _ other) ∙ found)))
+      (λ (other : ends_escape b ≡ false). absurd (none-some s (sym (cond-false _ _ _ other) ∙ found)))
       (cases_Bool (ends_escape b))
 
   escape-found : (b : ℕ) (text : List ℕ) (s : Sequence) → length (0x1B ∷ b ∷ text) ≤ 256
@@ -334,14 +330,14 @@ module _ (m : Mode) (old : Rest) (nothing : old.text ≡ []) where
       (cases_Bool (b == 0x5B))
 
   opened-found : (text : List ℕ) (s : Sequence) → length text ≤ 256 → opened_ahead text ≡ Some s → IsUnitOf m old text s
-  opened-found [] s short found = absurd (never s found)
-  opened-found (esc ∷ []) s short found = absurd (never s found)
+  opened-found [] s short found = absurd (none-some s found)
+  opened-found (esc ∷ []) s short found = absurd (none-some s found)
   opened-found (esc ∷ b ∷ text) s short found = ⊎_elim
       (λ (is : (esc == 0x1B) ≡ true).
       let sign : esc ≡ 0x1B = eqb-true esc 0x1B is in
       subst (λ (x : ℕ). IsUnitOf m old (x ∷ b ∷ text) s) (sym sign)
       (escape-found b text s (subst (λ (x : ℕ). length (x ∷ b ∷ text) ≤ 256) sign short) (sym (cond-true _ _ _ is) ∙ found)))
-      (λ (other : (esc == 0x1B) ≡ false). absurd (never s (sym (cond-false _ _ _ other) ∙ found)))
+      (λ (other : (esc == 0x1B) ≡ false). absurd (none-some s (sym (cond-false _ _ _ other) ∙ found)))
       (cases_Bool (esc == 0x1B))
 
   -- what is found in the first 256 bytes of a text is found in the text
@@ -363,3 +359,10 @@ sequences_are_units old m text s found = ⊎_elim
     (λ (other : is_empty old.text ≡ false).
     absurd (let e : None ≡ Some s = sym (cond-false _ _ _ other) ∙ found in let f : ⊥ = cc in f))
     (cases_Bool (is_empty old.text))
+
+-- a sequence that is read at once stands in the text
+pub csi_within : (text : List ℕ) (brief : ShortCsi) → sequence_ahead text ≡ Some (csi_in brief) → brief.count ≤ length text
+csi_within text brief found = (sequences_are_units (fresh start_mode) start_mode text (csi_in brief) found).within
+
+pub sgr_within : (text : List ℕ) (longer : LongSgr) → sequence_ahead text ≡ Some (sgr_in longer) → longer.count ≤ length text
+sgr_within text longer found = (sequences_are_units (fresh start_mode) start_mode text (sgr_in longer) found).within

@@ -2,6 +2,7 @@
 use Rattle.std.proofs.Common.{◌≡◌, ℕ, Bool, true, false, not, ◌++◌, replicate, slice_index_or, ◌==◌, ◌&&◌, ◌<◌, ◌≤◌, zero, suc, List, [], ◌∷◌, length, take, get_or, refl, sym, ap, ◌∙◌, subst, ◌⊎◌, inl, inr, ⊎_elim, arith}
 use Rattle.std.proofs.lemmas.Bool.{agree_below_at, and_parts, cases_lt, cond-false, false≢true}
 use Rattle.std.proofs.lemmas.Bool.Decides.{nat_tests}
+use Rattle.std.proofs.lemmas.List.{take-take}
 use Rattle.vt_chars.specs.Utf8.{is_second, is_tail, within}
 use Rattle.vt_units.proofs.Sizes.{Sized, sized}
 use Rattle.vt_units.proofs.Wholes.{well}
@@ -18,17 +19,7 @@ flag_is a below = agree_below_at (λ a. slice_index_or flags a false) is_common 
 
 -- any tail may follow
 second_is : (a b : ℕ) → is_common a ≡ true → is_second a b ≡ is_tail b
-second_is a b common =
-    let parts = and_parts (within 0xC3 0xEF a && not (a == 0xE0)) (not (a == 0xED)) common in
-    let front = and_parts (within 0xC3 0xEF a) (not (a == 0xE0)) parts.0 in
-    let first : (a == 0xE0) ≡ false = grind (arith, nat_tests, front.1) in
-    let last : (a == 0xED) ≡ false = grind (arith, nat_tests, parts.1) in
-    let longer : (a == 0xF0) ≡ false = grind (arith, nat_tests, front.0) in
-    let longest : (a == 0xF4) ≡ false = grind (arith, nat_tests, front.0) in
-    cond-false (a == 0xE0) (within 0xA0 0xBF b) _ first
-    ∙ cond-false (a == 0xED) (within 0x80 0x9F b) _ last
-    ∙ cond-false (a == 0xF0) (within 0x90 0xBF b) _ longer
-    ∙ cond-false (a == 0xF4) (within 0x80 0x8F b) _ longest
+second_is a b common = grind (arith, nat_tests)
 
 module _ (a b c code n : ℕ) (common : is_common a ≡ true) (is : Begins (a ∷ b ∷ c ∷ []) code n) where
   two-tail : n ≡ 2 → is_tail b ≡ true
@@ -46,10 +37,8 @@ module _ (a b c code n : ℕ) (common : is_common a ≡ true) (is : Begins (a �
 -- such a character has two bytes or three
 size_is : (a n : ℕ) → is_common a ≡ true → Sized a n → ((a < 0xE0) × (n ≡ 2)) ⊎ ((0xE0 ≤ a) × (n ≡ 3))
 size_is a n common size =
-    let parts = and_parts (within 0xC3 0xEF a && not (a == 0xE0)) (not (a == 0xED)) common in
-    let front = and_parts (within 0xC3 0xEF a) (not (a == 0xE0)) parts.0 in
-    let low : 0x80 ≤ a = grind (arith, nat_tests, front.0) in
-    let high : a < 0xF0 = grind (arith, nat_tests, front.0) in
+    let low : 0x80 ≤ a = grind (arith, nat_tests) in
+    let high : a < 0xF0 = grind (arith, nat_tests) in
     ⊎_elim (λ (less : a < 0xE0). inl (less, size.two low less)) (λ (most : 0xE0 ≤ a). inr (most, size.three most high))
     (cases_lt a 0xE0)
 
@@ -69,12 +58,6 @@ none_common a b c last common two three fails code n is = ⊎_elim
     fails)
     (size_is a n common (sized (a ∷ b ∷ c ∷ []) code n is))
 
-take_front : (n k : ℕ) (xs : List ℕ) → n ≤ k → take n (take k xs) ≡ take n xs
-take_front zero k xs within = refl
-take_front (suc n) zero xs within = absurd (omega (arith, within))
-take_front (suc n) (suc k) [] within = refl
-take_front (suc n) (suc k) (x ∷ xs) within = ap (λ (ys : List ℕ). x ∷ ys) (take_front n k xs (omega (arith, within)))
-
 -- three bytes of a text
 module _ (text : List ℕ) (a b c : ℕ) (long : 3 ≤ length text) (front : take 3 text ≡ a ∷ b ∷ c ∷ []) where
   -- begin with a character that the text begins with
@@ -84,7 +67,7 @@ module _ (text : List ℕ) (a b c : ℕ) (long : 3 ≤ length text) (front : tak
     within = omega (arith, is.within, long);
     first =
         subst (λ (xs : List ℕ). IsTextOf xs code)
-        (ap (λ (xs : List ℕ). take n xs) (sym front) ∙ take_front n 3 text (omega (arith, is.within))) is.first;
+        (ap (λ (xs : List ℕ). take n xs) (sym front) ∙ take-take n 3 text (omega (arith, is.within))) is.first;
   }
 
   -- begin with one, where the text does
@@ -100,5 +83,5 @@ module _ (text : List ℕ) (a b c : ℕ) (long : 3 ≤ length text) (front : tak
         within = few;
         first =
             subst (λ (xs : List ℕ). IsTextOf xs code)
-            (sym (take_front n 3 text few) ∙ ap (λ (xs : List ℕ). take n xs) front) is.first;
+            (sym (take-take n 3 text few) ∙ ap (λ (xs : List ℕ). take n xs) front) is.first;
       })

@@ -2,6 +2,7 @@
 use Rattle.std.proofs.Common.{◌≡◌, ◌≢◌, ◌↔◌, ℕ, ◌==◌, ◌≤◌, Bool, true, false, cond, ◌&&◌, List, [], ◌∷◌, ◌++◌, length, drop, refl, sym, ap, ◌∙◌, subst, arith, ⊎_elim, inl, inr}
 use Rattle.std.proofs.lemmas.Bool.{and_parts, cases_Bool, cond-true, cond-false, eqb-true, false≢true}
 use Rattle.std.proofs.lemmas.List.{append_assoc}
+use Rattle.std.proofs.lemmas.Bool.Decides.{nat_tests}
 use Rattle.vt_chars.specs.Utf8.{Begins, UnfinishedBegins, code_of, decoding_of, is_well_formed, within}
 use Rattle.vt_chars.specs.declared.decoded.Decoded.{Decoded}
 use Rattle.vt_chars.specs.declared.decoded.Decoded.TheVariants.{Character, Unfinished, Malformed}
@@ -112,18 +113,9 @@ part_of m (a ∷ p) is =
 csi_only : (w : List ℕ) → is_well_formed w ≡ true → begins_csi w ≡ true → w ≡ 0xC2 ∷ 0x9B ∷ []
 csi_only [] is csi = absurd (false≢true csi)
 csi_only (a ∷ []) is csi = absurd (false≢true csi)
-csi_only (a ∷ b ∷ []) is csi =
-    let p : ((a == 0xC2) ≡ true) × ((b == 0x9B) ≡ true) = and_parts _ _ csi in
-    let first : a ≡ 0xC2 = eqb-true a 0xC2 p.0 in
-    let second : b ≡ 0x9B = eqb-true b 0x9B p.1 in
-    λ i. first i ∷ second i ∷ []
-csi_only (a ∷ b ∷ c ∷ []) is csi =
-    let first : a ≡ 0xC2 = eqb-true a 0xC2 (and_parts _ _ csi).0 in
-    absurd (false≢true (sym (ap (λ x. within 0xE0 0xEF x) first) ∙ (and_parts _ _ (and_parts _ _ is).0).0))
-csi_only (a ∷ b ∷ c ∷ d ∷ []) is csi =
-    let first : a ≡ 0xC2 = eqb-true a 0xC2 (and_parts _ _ csi).0 in
-    absurd (false≢true (sym (ap (λ x. within 0xF0 0xF4 x) first)
-    ∙ (and_parts _ _ (and_parts _ _ (and_parts _ _ is).0).0).0))
+csi_only (a ∷ b ∷ []) is csi = grind (arith, nat_tests)
+csi_only (a ∷ b ∷ c ∷ []) is csi = absurd (grind (arith, nat_tests))
+csi_only (a ∷ b ∷ c ∷ d ∷ []) is csi = absurd (grind (arith, nat_tests))
 csi_only (a ∷ b ∷ c ∷ d ∷ e ∷ w) is csi = absurd (false≢true is)
 
 formed_short : (w : List ℕ) → is_well_formed w ≡ true → length w ≤ 4

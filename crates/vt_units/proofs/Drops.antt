@@ -6,6 +6,7 @@ use Rattle.std.proofs.lemmas.Bool.Decides.{nat_tests}
 use Rattle.vt_chars.specs.Utf8.{decoding_of}
 use Rattle.vt_chars.specs.declared.decoded.Decoded.{Decoded}
 use Rattle.vt_chars.specs.declared.decoded.Decoded.TheVariants.{Character, Unfinished, Malformed}
+use Rattle.vt_units.proofs.Broken.{one_some, string_some}
 use Rattle.vt_units.proofs.Follows.{After, admits, admits_command, string_next}
 use Rattle.vt_units.proofs.Opens.{IsSome}
 use Rattle.vt_units.proofs.Steps.{follows_reading}
@@ -115,14 +116,6 @@ command_drops r b is whole_one = ⊎_elim
         (λ outside. subst IsSome (sym (after.1 outside ∙ cond-true (joins_command r.mode b) dropped none joins_it)) tt)
         (cases_Bool (admits_command b))
 
-string_some : (b : ℕ) → IsSome (string_next b)
-string_some b = by-cond (is_swallowed b) (b == 0x1B)
-  where
-    by-cond : (c d : Bool) → IsSome (cond c (unfinished string) (cond d (unfinished string_end) (whole units.Unit.Ignored)))
-    by-cond true d = tt
-    by-cond false true = tt
-    by-cond false false = tt
-
 string_drops : (r : Rest) (b : ℕ) → reading r.mode r.text ≡ unfinished string → Drops r b
 string_drops r b is =
     let next : reading r.mode (r.text ++ b ∷ []) ≡ string_next b = follows_reading r.mode b r.text string is in
@@ -136,27 +129,8 @@ string_drops r b is =
     (subst IsSome (sym next) (string_some b)))
     (cases_Bool (is_swallowed b))
 
--- where no text is, each byte is something
-first_some : (m : Mode) (b : ℕ) → IsSome (reading m (b ∷ []))
-first_some m b = by-conds (b == 0x1B) (is_csi m b) (is_control m b) (decodes m) (decoding_of (b ∷ []))
-  where
-    by-decoded : (d : Decoded) → IsSome (character_reading (b ∷ []) d)
-    by-decoded (Character code) = tt
-    by-decoded Unfinished = tt
-    by-decoded Malformed = tt
-
-    by-conds : (esc csi control decodes_it : Bool) (d : Decoded)
-        → IsSome (cond esc (unfinished sequence) (cond csi (unfinished sequence)
-        (cond control (whole (units.Unit.Control b))
-        (cond decodes_it (character_reading (b ∷ []) d) (whole (byte_unit m b))))))
-    by-conds true csi control decodes_it d = tt
-    by-conds false true control decodes_it d = tt
-    by-conds false false true decodes_it d = tt
-    by-conds false false false true d = by-decoded d
-    by-conds false false false false d = tt
-
 fresh_drops : (m : Mode) (b : ℕ) → Drops (fresh m) b
-fresh_drops m b = by_outcome_of_text (fresh m) b refl (first_some m b)
+fresh_drops m b = by_outcome_of_text (fresh m) b refl (one_some m b)
 
 -- a rest whatever ends before the byte
 settled_drops : (old : Rest) (m : Mode) (b : ℕ) (k : Kind) → reading old.mode old.text ≡ unfinished k

@@ -40,19 +40,10 @@ abbrev pub Follows : Mode → ℕ → (List ℕ → Reading) → Type 0
 Follows m b f = (t : List ℕ) (k : Kind) → f t ≡ unfinished k → After m k b (f (t ++ b ∷ []))
 
 admitted_joins : (m : Mode) (b : ℕ) → admits b ≡ true → joins m b ≡ true
-admitted_joins m b is =
-    let low : nat_lt b 0x20 ≡ false = grind (arith, nat_tests) in
-    let esc : (b == 0x1B) ≡ false = grind (arith, nat_tests) in
-    let csi : (b == 0x9B) ≡ false = grind (arith, nat_tests) in
-    let del : (b == 0x7F) ≡ false = grind (arith, nat_tests) in
-    not_from_false _ (or_from _ _ (or_from _ _ (and_left _ _ low) (or_from _ _ esc (and_left _ _ csi))) del)
+admitted_joins m b is = grind (arith, nat_tests)
 
 admitted_joins-command : (m : Mode) (b : ℕ) → admits_command b ≡ true → joins_command m b ≡ true
-admitted_joins-command m b is =
-    let low : nat_lt b 0x20 ≡ false = grind (arith, nat_tests) in
-    let esc : (b == 0x1B) ≡ false = grind (arith, nat_tests) in
-    let csi : (b == 0x9B) ≡ false = grind (arith, nat_tests) in
-    not_from_false _ (or_from _ _ (and_left _ _ low) (or_from _ _ esc (and_left _ _ csi)))
+admitted_joins-command m b is = grind (arith, nat_tests)
 
 pub dropped_or_none_some : (m : Mode) (b : ℕ) → admits b ≡ true → IsSome (dropped_or_none m b)
 dropped_or_none_some m b is = subst IsSome (sym (cond-true _ _ _ (admitted_joins m b is))) tt

@@ -262,14 +262,8 @@ module _ (at : stage.ParserState) (m : Mode) (t : List ℕ) (one : IsSequence at
 pub begun_low : (t : List ℕ) → is_begun t ≡ true → (a : ℕ) × (more : List ℕ) × (t ≡ a ∷ more) × (within 0xC2 0xF4 a ≡ true)
 begun_low [] begun = absurd (false≢true begun)
 begun_low (a ∷ []) begun = (a, [], refl, begun)
-begun_low (a ∷ b ∷ []) begun = (a, b ∷ [], refl, wider (and_parts _ _ begun).0)
-  where
-    wider : within 0xE0 0xF4 a ≡ true → within 0xC2 0xF4 a ≡ true
-    wider inside = grind (arith, nat_tests)
-begun_low (a ∷ b ∷ c ∷ []) begun = (a, b ∷ c ∷ [], refl, wider (and_parts _ _ (and_parts _ _ begun).0).0)
-  where
-    wider : within 0xF0 0xF4 a ≡ true → within 0xC2 0xF4 a ≡ true
-    wider inside = grind (arith, nat_tests)
+begun_low (a ∷ b ∷ []) begun = (a, b ∷ [], refl, grind (arith, nat_tests))
+begun_low (a ∷ b ∷ c ∷ []) begun = (a, b ∷ c ∷ [], refl, grind (arith, nat_tests))
 begun_low (a ∷ b ∷ c ∷ d ∷ more) begun = absurd (false≢true begun)
 
 character_first : (m : Mode) (a : ℕ) (more : List ℕ) → decodes m ≡ true → within 0xC2 0xF4 a ≡ true
@@ -342,9 +336,5 @@ part_short t is = begun-short t (decoding_of_begun t is)
 pub csi_text : (t : List ℕ) (b : ℕ) → is_begun t ≡ true → begins_csi (t ++ b ∷ []) ≡ true
     → t ++ b ∷ [] ≡ 0xC2 ∷ 0x9B ∷ []
 csi_text [] b begun csi = absurd (false≢true begun)
-csi_text (a ∷ []) b begun csi =
-    let p : ((a == 0xC2) ≡ true) × ((b == 0x9B) ≡ true) = and_parts _ _ csi in
-    let first : a ≡ 0xC2 = eqb-true a 0xC2 p.0 in
-    let second : b ≡ 0x9B = eqb-true b 0x9B p.1 in
-    λ i. first i ∷ second i ∷ []
+csi_text (a ∷ []) b begun csi = grind (arith, nat_tests)
 csi_text (a ∷ x ∷ rest) b begun csi = absurd (false≢true (sym (begun_csi (a ∷ x ∷ rest) begun) ∙ csi))

@@ -3,7 +3,7 @@ use Rattle.std.proofs.Common.{◌≡◌, ℕ, ◌+◌, ◌-◌, ◌*◌, ◌%◌
 use Rattle.std.specs.List.{prefix_len}
 use Rattle.std.proofs.lemmas.Bool.{cases_lt, eq-eqb, ne_eqb}
 use Rattle.std.proofs.lemmas.Bool.Decides.{nat_tests}
-use Rattle.std.proofs.lemmas.List.{length-drop, length-map}
+use Rattle.std.proofs.lemmas.List.{length-map}
 use Rattle.std.proofs.lemmas.List.Folds.{prefix_len-append}
 use Rattle.std.proofs.lemmas.List.Sums.{prefix_len-le-length}
 use Rattle.std.proofs.lemmas.Simd.{chunk-drop, leading_from_mask_l, length-chunk, map-map, mask_l-mod, tops_compared, trailing_mask_l, zip2_splat_left}
@@ -17,14 +17,7 @@ is_other b = not (is_printable b)
 
 -- a byte isn't printable where, 32 less and modulo 256, it is 95 at least
 other_byte : (b : ℕ) → b < 256 → leb 95 ((b + (256 - 32)) % 256) ≡ is_other b
-other_byte b small = ⊎_elim
-    (λ (low : b < 32).
-    let same : (b + (256 - 32)) % 256 ≡ b + 224 = omega arith in
-    ap (leb 95) same ∙ (let e : leb 95 (b + 224) ≡ is_other b = grind (arith, nat_tests, low) in e))
-    (λ (high : 32 ≤ b).
-    let same : (b + (256 - 32)) % 256 ≡ b - 32 = omega arith in
-    ap (leb 95) same ∙ (let e : leb 95 (b - 32) ≡ is_other b = grind (arith, nat_tests, high) in e))
-    (cases_lt b 32)
+other_byte b small = grind (arith, nat_tests)
 
 not-not : (b : Bool) → b ≡ not (not b)
 not-not true = refl
@@ -72,9 +65,6 @@ run_stops text i room some =
     ∙ ap (λ (b : Bool). cond b (length part + prefix_len is_printable (drop (i + 16) text)) (prefix_len is_printable part))
     (ne_eqb _ _ (λ (e : prefix_len is_printable part ≡ length part). omega (arith, no_bits part (sym (same_run part) ∙ e))))
     ∙ same_run part ∙ sym (trailing_mask_l is_other 64 part (omega (arith, length-chunk i 16 text room)) some)
-
-pub run_within : (text : List ℕ) (i : ℕ) → i ≤ length text → i + prefix_len is_printable (drop i text) ≤ length text
-run_within text i within = omega (arith, prefix_len-le-length is_printable (drop i text), length-drop i text)
 
 abbrev lowered : ℕ → ℕ
 lowered b = (b + (256 - 32)) % 256

@@ -1,6 +1,8 @@
 -- Printable bytes are characters by themselves, and control characters are units.
-use Rattle.std.proofs.Common.{◌≡◌, ℕ, Bool, ◌==◌, ◌&&◌, ◌||◌, not, true, false, [], ◌∷◌, ap, ◌∙◌, arith}
+use Rattle.std.proofs.Common.{◌≡◌, ℕ, Bool, ◌==◌, ◌≤◌, ◌&&◌, ◌||◌, not, true, false, List, [], ◌∷◌, length, ap, ◌∙◌, arith}
+use Rattle.std.specs.List.{prefix_len}
 use Rattle.std.specs.Prelude.{nat_le, nat_lt}
+use Rattle.std.proofs.lemmas.List.Sums.{prefix_len-le-length}
 use Rattle.std.proofs.lemmas.Bool.{and_left, and_parts, cond-true, cond-false}
 use Rattle.std.proofs.lemmas.Bool.Decides.{nat_tests}
 use Rattle.vt_chars.specs.Utf8.{within}
@@ -56,3 +58,6 @@ controls_are_units old m b nothing is esc =
       ap (λ s. answer_of s b) left ∙ ap (λ (t : ByteOutcome). record { bad = false; got = t.got }) all,
       ap (λ (s : RestBefore). (byte_outcome s.rest b).rest) left ∙ ap (λ (t : ByteOutcome). t.rest) all,
     )
+
+pub printable_within : (text : List ℕ) → prefix_len is_printable text ≤ length text
+printable_within text = prefix_len-le-length is_printable text

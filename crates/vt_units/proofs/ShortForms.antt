@@ -1,7 +1,7 @@
 -- The conditions for a short sequence at the start of a text, by its numbers as they are read.
 use Rattle.std.proofs.Common.{◌≡◌, ◌≢◌, ℕ, ◌==◌, ◌≤◌, ◌<◌, ◌+◌, Bool, true, false, ◌&&◌, List, length, drop, get_or, refl, sym, ap, ◌∙◌, arith}
 use Rattle.std.specs.Prelude.{nat_le, slice_index}
-use Rattle.std.proofs.lemmas.Bool.{cond-true, cond-false, eq-eqb, le-leb}
+use Rattle.std.proofs.lemmas.Bool.{cond-false, cond-true, eq-eqb, le-leb, ne_eqb}
 use Rattle.std.proofs.lemmas.Bool.Decides.{nat_tests}
 use Rattle.std.proofs.lemmas.List.{drop_more}
 use Rattle.vt_units.proofs.Numbered.{longest_prefix_goes, longest_prefix_stops}
@@ -129,14 +129,8 @@ colour_exact text r long colour ends =
     ∙ ap (λ (test : Bool). test && numbers) colour
     ∙ ends
 
-pub not_eqb : (a b : ℕ) → a ≢ b → (a == b) ≡ false
-not_eqb a b apart = grind (arith, nat_tests, apart)
-
 pub and_second : (a b : Bool) → a ≡ true → (a && b) ≡ b
 and_second a b is = ap (λ (test : Bool). test && b) is
-
-pub and_none : (a b : Bool) → a ≡ false → (a && b) ≡ false
-and_none a b is = ap (λ (test : Bool). test && b) is
 
 -- three numbers: the last one ends before place e
 pub three_exact : (text : List ℕ) (third e : ℕ) → 19 ≤ length text → begins_colour text ≡ true
@@ -153,5 +147,5 @@ pub five_exact : (text : List ℕ) (third e : ℕ) → 19 ≤ length text → be
     → begins_longer text ≡ (get_or text e 0 == 0x3B && is_number_before (is_number_next ends_sgr) (drop (e + 1) text))
 five_exact text third e long colour way goes few stops =
     colour_exact text _ long colour
-    (cond-false _ _ _ (not_eqb (slice_index text 5) 0x35 way)
+    (cond-false _ _ _ (ne_eqb (slice_index text 5) 0x35 way)
     ∙ number_parts (is_number_next ends_sgr) text third 7 e goes few (omega (arith, long, few)) stops)

@@ -2,6 +2,7 @@
 use Rattle.std.proofs.Common.{◌≡◌, ℕ, ◌≤◌, ◌<◌, zero, suc, ◌&&◌, List, [], ◌∷◌, length, take, get_or, Option, None, Some, IfNone, refl, sym, ap, ◌∙◌, subst, ⊎_elim, arith, length-take-le}
 use Rattle.std.proofs.lemmas.Bool.{and_parts, cases_lt, false≢true}
 use Rattle.std.proofs.lemmas.Bool.Decides.{nat_tests}
+use Rattle.std.proofs.lemmas.List.{get_or-take}
 use Rattle.vt_chars.specs.Utf8.{decoding_of, is_second, is_tail, within}
 use Rattle.vt_chars.specs.declared.decoded.Decoded.TheVariants.{Character}
 use Rattle.vt_units.proofs.Wholes.{well}
@@ -15,36 +16,16 @@ pub record Sized (a n : ℕ) : Type 0 where
   pub four : 0xF0 ≤ a → n ≡ 4
 
 sized_one : (a : ℕ) → a ≤ 0x7F → Sized a 1
-sized_one a low = record {
-  one = λ is. refl;
-  two = λ is less. absurd (omega (arith, low, is));
-  three = λ is less. absurd (omega (arith, low, is));
-  four = λ is. absurd (omega (arith, low, is));
-}
+sized_one a low = grind arith
 
 sized_two : (a : ℕ) → 0xC2 ≤ a → a ≤ 0xDF → Sized a 2
-sized_two a high low = record {
-  one = λ is. absurd (omega (arith, high, is));
-  two = λ is less. refl;
-  three = λ is less. absurd (omega (arith, low, is));
-  four = λ is. absurd (omega (arith, low, is));
-}
+sized_two a high low = grind arith
 
 sized_three : (a : ℕ) → 0xE0 ≤ a → a ≤ 0xEF → Sized a 3
-sized_three a high low = record {
-  one = λ is. absurd (omega (arith, high, is));
-  two = λ is less. absurd (omega (arith, high, less));
-  three = λ is less. refl;
-  four = λ is. absurd (omega (arith, low, is));
-}
+sized_three a high low = grind arith
 
 sized_four : (a : ℕ) → 0xF0 ≤ a → Sized a 4
-sized_four a high = record {
-  one = λ is. absurd (omega (arith, high, is));
-  two = λ is less. absurd (omega (arith, high, less));
-  three = λ is less. absurd (omega (arith, high, less));
-  four = λ is. refl;
-}
+sized_four a high = grind arith
 
 well-sized : (t : List ℕ) (code : ℕ) → decoding_of t ≡ Character code → Sized (get_or t 0 0) (length t)
 well-sized [] code is = absurd (false≢true (well [] code is).0)
@@ -65,15 +46,10 @@ well-sized (a ∷ b ∷ c ∷ d ∷ []) code is =
     sized_four a (grind (arith, nat_tests, first.0))
 well-sized (a ∷ b ∷ c ∷ d ∷ f ∷ more) code is = absurd (false≢true (well (a ∷ b ∷ c ∷ d ∷ f ∷ more) code is).0)
 
-head_take : (n : ℕ) (text : List ℕ) → 0 < n → get_or (take n text) 0 0 ≡ get_or text 0 0
-head_take zero text some = absurd (omega (arith, some))
-head_take (suc n) [] some = refl
-head_take (suc n) (x ∷ text) some = refl
-
 pub sized : (text : List ℕ) (code n : ℕ) → Begins text code n → Sized (get_or text 0 0) n
 sized text code n is =
     let len : length (take n text) ≡ n = length-take-le n text is.within in
-    subst (λ (a : ℕ). Sized a n) (head_take n text is.some)
+    subst (λ (a : ℕ). Sized a n) (get_or-take n text 0 0 is.some)
     (subst (λ (k : ℕ). Sized (get_or (take n text) 0 0) k) len (well-sized (take n text) code is.first.whole))
 
 -- the first n bytes are no character that is shown, and a character would have n

@@ -35,13 +35,7 @@ interrupts_out m b is = ⊎_elim
     )
 
 pub acts_low : (m : Mode) (b : ℕ) → acts b ≡ true → interrupts m b ≡ false
-acts_low m b is =
-    let low : (b == 0x9B) ≡ false = grind (arith, nat_tests) in
-    let not_esc : (b == 0x1B) ≡ false = by-parts (and_parts (nat_lt b 0x20) _ is).1 in
-    or_from _ _ not_esc (and_left _ _ low)
-  where
-    by-parts : not (b == 0x18 || b == 0x1A || b == 0x1B) ≡ true → (b == 0x1B) ≡ false
-    by-parts e = (or_parts (b == 0x18 || b == 0x1A) (b == 0x1B) (not-true _ e)).1
+acts_low m b is = grind (arith, nat_tests)
 
 pub del_passes : (m : Mode) (b : ℕ) → (b == 0x7F) ≡ true → (interrupts m b ≡ false) × (acts b ≡ false)
 del_passes m b is =

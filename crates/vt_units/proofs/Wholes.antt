@@ -1,7 +1,7 @@
 -- Texts that are whole characters, read byte by byte.
 use Rattle.std.proofs.Common.{◌≡◌, ℕ, Bool, true, false, not, cond, ◌==◌, ◌&&◌, ◌||◌, ◌≤◌, List, [], ◌∷◌, ◌++◌, length, refl, sym, ap, ◌∙◌, append_assoc, append-nil, arith}
 use Rattle.std.specs.Prelude.{nat_le, nat_lt, if◌then◌else◌}
-use Rattle.std.proofs.lemmas.Bool.{and_left, and_parts, cond-true, cond-false, eqb-true}
+use Rattle.std.proofs.lemmas.Bool.{and_left, and_parts, cond-false, cond-true, eqb-true, not-true}
 use Rattle.std.proofs.lemmas.Bool.Decides.{nat_tests}
 use Rattle.vt_chars.specs.Utf8.{code_of, decoding_of, is_begun, is_second, is_tail, is_well_formed, within}
 use Rattle.vt_chars.specs.declared.decoded.Decoded.TheVariants.{Character, Unfinished, Malformed}
@@ -120,10 +120,6 @@ begun_reading m a more short high decoding plain ill begun =
     char_reading m a more short high decoding plain
     ∙ ap (character_reading (a ∷ more)) (cond-false _ _ _ ill ∙ cond-true _ _ _ begun)
 
-off : (t : Bool) → not t ≡ true → t ≡ false
-off true is = absurd (let e : ⊥ = cc in e)
-off false is = refl
-
 -- a whole character
 whole-reading : (m : Mode) (a : ℕ) (more : List ℕ) (code : ℕ) → length more ≤ 3 → 0xC2 ≤ a → decodes m ≡ true
     → begins_csi (a ∷ more) ≡ false → IsTextOf (a ∷ more) code
@@ -132,7 +128,7 @@ whole-reading m a more code short high decoding plain is =
     let parts = and_parts (nat_le 0x20 code) (not (within 0x7F 0x9F code)) is.shown in
     char_reading m a more short high decoding plain
     ∙ ap (character_reading (a ∷ more)) is.whole
-    ∙ ap whole (cond-false _ _ _ (off (within 0x7F 0x9F code) parts.1))
+    ∙ ap whole (cond-false _ _ _ (not-true (within 0x7F 0x9F code) parts.1))
 
 -- U+009B isn't shown
 no_csi : (a b code : ℕ) → code_of (a ∷ b ∷ []) ≡ code → is_shown code ≡ true → (a == 0xC2 && b == 0x9B) ≡ false
@@ -165,7 +161,7 @@ module _ {S : Type 0} (e : Effects S) (printables : PrintablesAreCharacters) (s 
         let low : nat_le a 0x7F ≡ true = formed.0 in
         let shown : is_shown a ≡ true = ap is_shown formed.1 ∙ is.shown in
         let parts = and_parts (nat_le 0x20 a) (not (within 0x7F 0x9F a)) shown in
-        let out : within 0x7F 0x9F a ≡ false = off (within 0x7F 0x9F a) parts.1 in
+        let out : within 0x7F 0x9F a ≡ false = not-true (within 0x7F 0x9F a) parts.1 in
         let printable : is_printable a ≡ true = grind (arith, nat_tests, low, parts.0, out) in
         let one = printables rest m a nothing decoding printable in
         ap (λ (n : Mode). make_reached (effects_of e (answer rest n a) s) (rest_after rest n a)) mode

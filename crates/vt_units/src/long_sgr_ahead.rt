@@ -1,13 +1,12 @@
 //! SGR that sets one colour, at the start of a text, read without a list of its parameters.
-ghost use Rattle.std.specs.Prelude.{◌≡◌, ◌≢◌, ◌≤◌, ◌<◌, ◌+◌, false, true, length, slice_index, take, Some, IfSome, MatchOption};
-ghost use Rattle.vt_units.specs.WholeSequence.{opened_ahead, sequence_ahead};
+ghost use Rattle.std.specs.Prelude.{◌≡◌, ◌≢◌, ◌≤◌, ◌<◌, ◌+◌, false, true, length, slice_index, Some, IfSome, MatchOption};
+ghost use Rattle.vt_units.specs.WholeSequence.{opened_ahead};
 ghost use Rattle.vt_units.specs.ShortForms.{begins_colour, begins_longer};
 ghost use Rattle.vt_units.specs.ShortSequences.{Begun, Goes, sgr_in};
 ghost use Rattle.vt_units.specs.Bytes.{is_digit};
 
 use crate::LongSgr;
 use crate::bytes::is_within;
-use crate::pending_bytes::SEQUENCE_BYTES;
 use crate::short_csi_ahead::{number_at, with_digit};
 
 /// The most bytes of such a sequence: ESC, `[`, 38 and 2 each with a `;` after it, three numbers of three
@@ -18,19 +17,7 @@ const LONG_SGR_BYTES: usize = 19;
 /// of at most three digits.
 #[inline(always)]
 pub(crate) fn long_sgr_ahead(b: &[u8]) -> Option<LongSgr>
-    ensures sequence { IfSome result (λ longer. sequence_ahead b.now ≡ Some (sgr_in longer)) }
-    ensures within { IfSome result (λ longer. longer.count ≤ length b.now) }
-    ensures exact { MatchOption result (begins_longer (take 256 b.now) ≡ false)
-        (λ _. begins_longer (take 256 b.now) ≡ true) }
-{
-    opened_long_sgr(&b[..b.len().min(SEQUENCE_BYTES)])
-}
-
-#[inline(always)]
-fn opened_long_sgr(b: &[u8]) -> Option<LongSgr>
-    requires short { length b.now ≤ 256 }
     ensures sequence { IfSome result (λ longer. opened_ahead b.now ≡ Some (sgr_in longer)) }
-    ensures within { IfSome result (λ longer. longer.count ≤ length b.now) }
     ensures exact { MatchOption result (begins_longer b.now ≡ false) (λ _. begins_longer b.now ≡ true) }
 {
     if b.len() < LONG_SGR_BYTES || !begins_colour(b) {
@@ -73,7 +60,6 @@ fn begins_colour(b: &[u8]) -> bool
 #[tactic(auto, using(crate::proofs::ShortSequences::goes_none, crate::proofs::ShortSequences::goes_on))]
 fn two_digits_at(b: &[u8], at: usize) -> u16
     requires within { at + 2 ≤ length b.now }
-    requires short { length b.now ≤ 256 }
     requires first { is_digit (slice_index b.now at) ≡ true }
     requires second { is_digit (slice_index b.now (at + 1)) ≡ true }
     ensures goes { Goes b.now 0 at result (at + 2) }
@@ -86,7 +72,6 @@ fn two_digits_at(b: &[u8], at: usize) -> u16
 #[tactic(auto, using(crate::proofs::ShortSequences::goes_none, crate::proofs::ShortSequences::goes_on))]
 fn digit_at(b: &[u8], at: usize) -> u16
     requires within { at < length b.now }
-    requires short { length b.now ≤ 256 }
     requires digit { is_digit (slice_index b.now at) ≡ true }
     ensures goes { Goes b.now 0 at result (at + 1) }
 {
@@ -108,9 +93,7 @@ fn three_numbers(b: &[u8], first: u16, second: u16, third: u16, end: usize) -> O
     requires few { end ≤ 10 }
     requires stops { is_digit (slice_index b.now end) ≡ true → end ≡ 10 }
     requires within { 19 ≤ length b.now }
-    requires short { length b.now ≤ 256 }
     ensures sequence { IfSome result (λ longer. opened_ahead b.now ≡ Some (sgr_in longer)) }
-    ensures within { IfSome result (λ longer. longer.count ≤ length b.now) }
     ensures exact { MatchOption result (begins_longer b.now ≡ false) (λ _. begins_longer b.now ≡ true) }
 {
     if b[end] != b'm' {
@@ -141,9 +124,7 @@ fn five_numbers(b: &[u8], first: u16, second: u16, third: u16, end: usize) -> Op
     requires few { end ≤ 10 }
     requires stops { is_digit (slice_index b.now end) ≡ true → end ≡ 10 }
     requires within { 19 ≤ length b.now }
-    requires short { length b.now ≤ 256 }
     ensures sequence { IfSome result (λ longer. opened_ahead b.now ≡ Some (sgr_in longer)) }
-    ensures within { IfSome result (λ longer. longer.count ≤ length b.now) }
     ensures exact { MatchOption result (begins_longer b.now ≡ false) (λ _. begins_longer b.now ≡ true) }
 {
     if b[end] != b';' {

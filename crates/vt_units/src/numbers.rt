@@ -26,15 +26,15 @@ pub(crate) fn params_of(body: &[u8]) -> Params
     params
 }
 
-/// Reads the digits and semicolons at the start of the text, and returns their number.
+/// Reads the digits and semicolons at the start of the text, and returns their number. `params` is replaced
+/// by the parameters.
 pub(crate) fn read_numbers(text: &[u8], params: &mut Params) -> usize
-    requires none { params.old ≡ [] }
-    requires short { length text.now ≤ 256 }
     ensures params { params.new ≡ params_of (longest_prefix is_parameter text.now) }
     ensures count { result ≡ length (longest_prefix is_parameter text.now) }
     ensures rest { drop result text.now ≡ after_prefix is_parameter text.now }
     ensures bound { result ≤ length text.now }
 {
+    params.clear();
     let mut at = 0;
     while at + 4 <= text.len() {
         let (number, end) = number_at(text, at);

@@ -1,4 +1,4 @@
-ghost use Rattle.std.specs.Prelude.{◌≡◌, false, ◌==◌, ◌≤◌, ◌<◌, ◌&&◌, not, true, drop, take, [], ◌∷◌, ◌++◌, length, Some, IfSome, MatchOption, if◌then◌else◌};
+ghost use Rattle.std.specs.Prelude.{◌≡◌, false, ◌==◌, ◌≤◌, ◌<◌, ◌&&◌, not, true, drop, take, [], ◌∷◌, length, Some, IfSome, MatchOption, if◌then◌else◌};
 ghost use Rattle.std.specs.List.{prefix_len};
 ghost use Rattle.vt_units.specs.WholeSequence.{parameters_ahead, rest_ahead, sequence_of, taken_ahead};
 ghost use Rattle.vt_units.specs.Answer.{answer, rest_after, rest_before, byte_outcome};
@@ -20,7 +20,7 @@ use crate::codes::Codes;
 use crate::ground::{ground, part};
 use crate::osc::{command, palette};
 use crate::parser_state::ParserState;
-use crate::pending_bytes::{PendingBytes, SEQUENCE_BYTES};
+use crate::pending_bytes::{PendingBytes, SEQUENCE_BYTES, sequence_front};
 use crate::printable::printable_prefix;
 use crate::remainder::Remainder;
 use crate::sequence::sequence;
@@ -72,7 +72,7 @@ impl Pending {
         ensures empty { result ≡ is_empty self.now.text }
         ensures unfinished { result ≡ false → IsUnfinished self.now.mode self.now.text }
     {
-        is_none(self.stage, self.mode, self.text.as_slice())
+        self.text.as_slice().is_empty()
     }
 
     /// Reads a byte. The mode counts only for the first byte of a text.
@@ -96,6 +96,7 @@ impl Pending {
     /// Reads the printable ASCII characters that the text begins with, and returns their number. It
     /// is 0 unless no text is pending and the mode is UTF-8. The result is that of
     /// [`Pending::take`] for each of the bytes.
+    #[tactic(auto, using(crate::proofs::Printables::printable_within))]
     pub fn take_printable(&mut self, mode: Mode, b: &[u8]) -> usize
         ensures count { result ≡ (if is_empty self.old.text && decodes mode
             then prefix_len is_printable b.now
@@ -151,7 +152,7 @@ impl Pending {
         if !self.is_empty() {
             return WholeSequence::Nothing;
         }
-        let ahead = sequence_ahead(b, params);
+        let ahead = sequence_ahead(sequence_front(b), params);
         if !matches!(ahead, WholeSequence::Nothing) {
             self.go_on(mode);
         }
@@ -161,6 +162,7 @@ impl Pending {
     /// Reads the sequence that [`Pending::take_sequence`] reads, if it is a control sequence of one or two
     /// short parameters that doesn't begin with `?`. After None that call has the result.
     #[inline(always)]
+    #[tactic(auto, using(crate::proofs::Comes::csi_within))]
     pub fn take_short_csi(&mut self, mode: Mode, b: &[u8]) -> Option<ShortCsi>
         ensures sequence { IfSome result (λ brief. taken_ahead self.old b.now ≡ Some (csi_in brief)) }
         ensures within { IfSome result (λ brief. brief.count ≤ length b.now) }
@@ -172,7 +174,7 @@ impl Pending {
         if !begins {
             return None;
         }
-        let brief = short_csi_ahead(b)?;
+        let brief = short_csi_ahead(sequence_front(b))?;
         self.go_on(mode);
         Some(brief)
     }
@@ -216,11 +218,18 @@ impl Pending {
         ensures goes { result ≡ true → Quiet self.old b self.new }
         ensures stays { result ≡ false → self.new ≡ self.old }
     {
-        let goes = joins_body(self.stage, self.mode, self.text.as_slice(), b);
-        if goes {
-            self.text.push(b);
+        match self.stage {
+            ParserState::Control => {}
+            _ => return false,
         }
-        goes
+        if !is_body(b) {
+            return false;
+        }
+        if self.text.as_slice().len() >= SEQUENCE_BYTES {
+            return false;
+        }
+        self.text.push(b);
+        true
     }
 
     // Ends the text that the byte ends by following it, and returns whether that text was malformed.
@@ -270,7 +279,7 @@ impl Pending {
     fn advance(&mut self, b: u8) -> Then
         ensures { byte_outcome self.old b ≡ record { got = result; rest = self.new } }
     {
-        let (got, step) = decide(self.stage, self.mode, self.text.as_slice(), b);
+        let (got, step) = self.decide(b);
         match step {
             Step::Keep => {}
             Step::Grow(stage) => {
@@ -284,6 +293,24 @@ impl Pending {
         }
         got
     }
+
+    fn decide(&self, b: u8) -> (Then, Step)
+        ensures { Inside self.now.mode self.now.text b result.0 result.1 }
+    {
+        let mode = self.mode;
+        let text = self.text.as_slice();
+        match self.stage {
+            ParserState::Ground => ground(mode, b),
+            ParserState::Utf8 => part(mode, text, b),
+            ParserState::Osc => command(mode, text, b),
+            ParserState::Palette => palette(mode, text, b),
+            ParserState::ControlString => string(mode, text, b),
+            ParserState::StringEscape => string_end(mode, text, b),
+            ParserState::Escape => sequence(ParserState::Escape, mode, text, b),
+            ParserState::Control => sequence(ParserState::Control, mode, text, b),
+            ParserState::CsiBracket => sequence(ParserState::CsiBracket, mode, text, b),
+        }
+    }
 }
 
 impl Default for Pending {
@@ -291,30 +318,6 @@ impl Default for Pending {
 
     fn default() -> Pending {
         Pending::new()
-    }
-}
-
-fn is_none(stage: ParserState, mode: Mode, text: &[u8]) -> bool
-    requires stands { Stands stage mode text.now }
-    requires bound { length text.now ≤ 256 }
-    ensures empty { result ≡ is_empty text.now }
-    ensures unfinished { result ≡ false → IsUnfinished mode text.now }
-{
-    let _ = stage;
-    let _ = mode;
-    text.is_empty()
-}
-
-fn joins_body(stage: ParserState, mode: Mode, text: &[u8], b: u8) -> bool
-    requires stands { Stands stage mode text.now }
-    requires bound { length text.now ≤ 256 }
-    ensures goes { result ≡ true → Quiet (rest_of mode text.now) b (rest_of mode (text.now ++ b ∷ [])) }
-    ensures room { result ≡ true → length text.now < 256 }
-    ensures stands { result ≡ true → Stands stage mode (text.now ++ b ∷ []) }
-{
-    match stage {
-        ParserState::Control => is_body(b) && text.len() < SEQUENCE_BYTES,
-        _ => false,
     }
 }
 
@@ -374,23 +377,5 @@ fn broken(mode: Mode, b: u8) -> Remainder
         Remainder::Nothing
     } else {
         Remainder::All
-    }
-}
-
-fn decide(stage: ParserState, mode: Mode, text: &[u8], b: u8) -> (Then, Step)
-    requires stands { Stands stage mode text.now }
-    requires bound { length text.now ≤ 256 }
-    ensures { Inside mode text.now b result.0 result.1 }
-{
-    match stage {
-        ParserState::Ground => ground(mode, b),
-        ParserState::Utf8 => part(mode, text, b),
-        ParserState::Osc => command(mode, text, b),
-        ParserState::Palette => palette(mode, text, b),
-        ParserState::ControlString => string(mode, text, b),
-        ParserState::StringEscape => string_end(mode, text, b),
-        ParserState::Escape => sequence(ParserState::Escape, mode, text, b),
-        ParserState::Control => sequence(ParserState::Control, mode, text, b),
-        ParserState::CsiBracket => sequence(ParserState::CsiBracket, mode, text, b),
     }
 }

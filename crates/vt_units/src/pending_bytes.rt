@@ -1,9 +1,17 @@
-ghost use Rattle.std.specs.Prelude.{◌≡◌, ◌<◌, ◌≤◌, [], ◌∷◌, ◌++◌, length};
+ghost use Rattle.std.specs.Prelude.{◌≡◌, ◌<◌, ◌≤◌, [], ◌∷◌, ◌++◌, length, take};
 
 use std::marker::Model;
 
 /// The most bytes of a sequence that isn't a string. This project's own.
 pub(crate) const SEQUENCE_BYTES: usize = 256;
+
+/// The first bytes of a text, as many as such a sequence has at most.
+#[inline(always)]
+pub(crate) fn sequence_front(b: &[u8]) -> &[u8]
+    ensures { result.now ≡ take 256 b.now }
+{
+    &b[..b.len().min(SEQUENCE_BYTES)]
+}
 
 /// The pending bytes.
 #[derive(Debug, Drop)]

@@ -1,6 +1,6 @@
 //! The printable characters of ASCII at the start of a text, searched 16 bytes at a time.
 ghost use Rattle.std.specs.List.{prefix_len};
-ghost use Rattle.std.specs.Prelude.{◌≡◌, ◌≤◌, ◌+◌, drop, length, map, not};
+ghost use Rattle.std.specs.Prelude.{◌≡◌, map, not};
 ghost use Rattle.std.specs.Simd.Lanes.{mask_l};
 ghost use Rattle.vt_units.specs.Bytes.{is_printable};
 
@@ -11,9 +11,9 @@ use std::simd::prelude::*;
 const LANES: usize = 16;
 
 /// The number of the first bytes that are printable characters of ASCII.
+#[tactic(auto, using(crate::proofs::Printables::printable_within))]
 pub(crate) fn printable_prefix(b: &[u8]) -> usize
-    ensures count { result ≡ prefix_len is_printable b.now }
-    ensures bound { result ≤ length b.now }
+    ensures { result ≡ prefix_len is_printable b.now }
 {
     let mut at = 0;
     while b.len() - at >= LANES {
@@ -28,8 +28,7 @@ pub(crate) fn printable_prefix(b: &[u8]) -> usize
 
 // The number of the first bytes that are printable, found one by one.
 fn short_prefix(b: &[u8]) -> usize
-    ensures count { result ≡ prefix_len is_printable b.now }
-    ensures bound { result ≤ length b.now }
+    ensures { result ≡ prefix_len is_printable b.now }
 {
     for (i, x) in b.iter().enumerate() {
         if !is_printable(*x) {

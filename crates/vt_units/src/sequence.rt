@@ -1,5 +1,5 @@
 //! A byte inside a sequence that isn't a string.
-ghost use Rattle.std.specs.Prelude.{◌≡◌, ◌≤◌, ◌<◌, ◌==◌, ◌&&◌, ◌∷◌, length, drop};
+ghost use Rattle.std.specs.Prelude.{◌≡◌, ◌≤◌, ◌<◌, ◌==◌, ◌&&◌, ◌∷◌, length};
 ghost use Rattle.vt_units.specs.Bytes.{is_mid, opens_string};
 ghost use Rattle.vt_units.specs.Reading.{is_empty};
 ghost use Rattle.vt_units.specs.ParserState.{Each, HasBody, Inside, IsSequence, IsOutcomeOf, Stands};
@@ -26,20 +26,11 @@ pub(crate) fn sequence(stage: ParserState, mode: Mode, text: &[u8], b: u8) -> (T
     } else if text.len() == SEQUENCE_BYTES {
         (Then::Dropped, Step::Clear)
     } else {
-        admit(stage, mode, text, b)
-    }
-}
-
-fn admit(stage: ParserState, mode: Mode, text: &[u8], b: u8) -> (Then, Step)
-    requires stands { Stands stage mode text.now }
-    requires sequence { IsSequence stage }
-    requires room { length text.now < 256 }
-    ensures { IsOutcomeOf mode text.now b result.0 result.1 }
-{
-    match stage {
-        ParserState::Escape => escape(mode, text, b),
-        ParserState::Control => control(mode, text, b),
-        _ => bracket(mode, text, b),
+        match stage {
+            ParserState::Escape => escape(mode, text, b),
+            ParserState::Control => control(mode, text, b),
+            _ => bracket(mode, text, b),
+        }
     }
 }
 

@@ -1,56 +1,27 @@
 //! A whole sequence at the start of a text.
-ghost use Rattle.std.specs.Prelude.{◌≡◌, ◌≤◌, [], length, drop};
-ghost use Rattle.vt_units.specs.WholeSequence.{control_ahead, ends_control, ends_escape, escape_ahead, mid_ahead, numbers_ahead, opened_ahead, parameters_ahead, sequence_ahead, sequence_of};
-ghost use Rattle.vt_units.specs.Numbers.{params_of};
-ghost use Rattle.vt_units.specs.Reading.{after_prefix, longest_prefix};
-ghost use Rattle.vt_units.specs.Sequences.{is_parameter};
+ghost use Rattle.std.specs.Prelude.{◌≡◌, ◌≤◌, []};
+ghost use Rattle.vt_units.specs.WholeSequence.{control_ahead, ends_control, ends_escape, mid_ahead, numbers_ahead, opened_ahead, parameters_ahead, sequence_of};
 
 use crate::bytes::{is_mid, is_within, opens_string};
 use crate::numbers::read_numbers;
-use crate::pending_bytes::SEQUENCE_BYTES;
 use crate::{Params, WholeSequence};
 
-/// The sequence that the text begins with, if it is one that is read at once. Its parameters are then in
+/// The sequence that these bytes begin with, if it is one that is read at once. Its parameters are then in
 /// `params`.
 pub(crate) fn sequence_ahead(b: &[u8], params: &mut Params) -> WholeSequence
     requires { params.old ≡ [] }
-    ensures sequence { sequence_of result params.new ≡ sequence_ahead b.now }
-    ensures parameters { params.new ≡ parameters_ahead (sequence_ahead b.now) }
-{
-    opened_ahead(&b[..b.len().min(SEQUENCE_BYTES)], params)
-}
-
-fn opened_ahead(b: &[u8], params: &mut Params) -> WholeSequence
-    requires none { params.old ≡ [] }
-    requires short { length b.now ≤ 256 }
     ensures sequence { sequence_of result params.new ≡ opened_ahead b.now }
     ensures parameters { params.new ≡ parameters_ahead (opened_ahead b.now) }
 {
     match b {
-        [0x1B, second, more @ ..] => escape_ahead(*second, more, params),
-        _ => WholeSequence::Nothing,
-    }
-}
-
-// The sequence that goes on after ESC.
-fn escape_ahead(b: u8, more: &[u8], params: &mut Params) -> WholeSequence
-    requires none { params.old ≡ [] }
-    requires short { length more.now ≤ 256 }
-    ensures sequence { sequence_of result params.new ≡ escape_ahead b more.now }
-    ensures parameters { params.new ≡ parameters_ahead (escape_ahead b more.now) }
-{
-    if b == b'[' {
-        control_ahead(more, params)
-    } else if is_mid(b) {
-        mid_ahead(b, more)
-    } else if ends_escape(b) {
-        WholeSequence::Esc {
+        [0x1B, b'[', more @ ..] => control_ahead(more, params),
+        [0x1B, mid, more @ ..] if is_mid(*mid) => mid_ahead(*mid, more),
+        [0x1B, last, ..] if ends_escape(*last) => WholeSequence::Esc {
             mid: 0,
-            last: b,
+            last: *last,
             count: 2,
-        }
-    } else {
-        WholeSequence::Nothing
+        },
+        _ => WholeSequence::Nothing,
     }
 }
 
@@ -71,8 +42,6 @@ fn mid_ahead(mid: u8, more: &[u8]) -> WholeSequence
 
 // The sequence that goes on after ESC [.
 fn control_ahead(text: &[u8], params: &mut Params) -> WholeSequence
-    requires none { params.old ≡ [] }
-    requires short { length text.now ≤ 256 }
     ensures sequence { sequence_of result params.new ≡ control_ahead text.now }
     ensures parameters { params.new ≡ parameters_ahead (control_ahead text.now) }
 {
@@ -85,9 +54,7 @@ fn control_ahead(text: &[u8], params: &mut Params) -> WholeSequence
 // Parameters and a last byte, after so many bytes.
 #[inline(always)]
 fn numbers_ahead(private: bool, before: usize, text: &[u8], params: &mut Params) -> WholeSequence
-    requires none { params.old ≡ [] }
-    requires few { before ≤ 3 }
-    requires short { length text.now ≤ 256 }
+    requires { before ≤ 3 }
     ensures sequence { sequence_of result params.new ≡ numbers_ahead private before text.now }
     ensures parameters { params.new ≡ parameters_ahead (numbers_ahead private before text.now) }
 {

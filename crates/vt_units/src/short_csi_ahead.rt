@@ -1,5 +1,5 @@
 //! A short sequence at the start of a text, read without a list of its parameters.
-ghost use Rattle.std.specs.Prelude.{◌≡◌, ◌==◌, ◌≤◌, ◌+◌, ◌*◌, length, slice_index, take, false, true, Some, IfSome, MatchOption};
+ghost use Rattle.std.specs.Prelude.{◌≡◌, ◌==◌, ◌≤◌, ◌+◌, ◌*◌, length, slice_index, false, true, Some, IfSome, MatchOption};
 ghost use Rattle.vt_units.specs.WholeSequence.{ends_control, opened_ahead, sequence_ahead};
 ghost use Rattle.vt_units.specs.ShortForms.{begins_short, begins_escape, is_short_end};
 ghost use Rattle.vt_units.specs.ShortSequences.{Begun, Goes, csi_in};
@@ -9,7 +9,6 @@ ghost use Rattle.vt_units.specs.declared.unit.Unit.TheVariants.{Esc};
 
 use crate::ShortCsi;
 use crate::bytes::{is_digit, is_within};
-use crate::pending_bytes::SEQUENCE_BYTES;
 
 /// The most bytes of such a sequence: ESC, `[`, two numbers of three digits, `;` and the last byte.
 const SHORT_CSI_BYTES: usize = 10;
@@ -18,19 +17,7 @@ const SHORT_CSI_BYTES: usize = 10;
 /// the text has as many bytes as the longest such sequence.
 #[inline(always)]
 pub(crate) fn short_csi_ahead(b: &[u8]) -> Option<ShortCsi>
-    ensures sequence { IfSome result (λ brief. sequence_ahead b.now ≡ Some (csi_in brief)) }
-    ensures within { IfSome result (λ brief. brief.count ≤ length b.now) }
-    ensures exact { MatchOption result (begins_short (take 256 b.now) ≡ false)
-        (λ _. begins_short (take 256 b.now) ≡ true) }
-{
-    opened_short_csi(&b[..b.len().min(SEQUENCE_BYTES)])
-}
-
-#[inline(always)]
-fn opened_short_csi(b: &[u8]) -> Option<ShortCsi>
-    requires short { length b.now ≤ 256 }
     ensures sequence { IfSome result (λ brief. opened_ahead b.now ≡ Some (csi_in brief)) }
-    ensures within { IfSome result (λ brief. brief.count ≤ length b.now) }
     ensures exact { MatchOption result (begins_short b.now ≡ false) (λ _. begins_short b.now ≡ true) }
 {
     if b.len() < SHORT_CSI_BYTES {
@@ -61,9 +48,7 @@ fn one_number(b: &[u8], first: u16, at: usize) -> Option<ShortCsi>
     requires stops { is_digit (slice_index b.now at) ≡ true → at ≡ 5 }
     requires last { (slice_index b.now at == 0x3B) ≡ false }
     requires within { at + 1 ≤ length b.now }
-    requires short { length b.now ≤ 256 }
     ensures sequence { IfSome result (λ brief. opened_ahead b.now ≡ Some (csi_in brief)) }
-    ensures within { IfSome result (λ brief. brief.count ≤ length b.now) }
     ensures exact { MatchOption result (begins_short b.now ≡ false) (λ _. begins_short b.now ≡ true) }
 {
     if !ends_short(b[at]) {
@@ -92,9 +77,7 @@ fn two_numbers(b: &[u8], first: u16, second: u16, at: usize, end: usize) -> Opti
     requires more { end ≤ at + 4 }
     requires stops { is_digit (slice_index b.now end) ≡ true → end ≡ at + 4 }
     requires within { end + 1 ≤ length b.now }
-    requires short { length b.now ≤ 256 }
     ensures sequence { IfSome result (λ brief. opened_ahead b.now ≡ Some (csi_in brief)) }
-    ensures within { IfSome result (λ brief. brief.count ≤ length b.now) }
     ensures exact { MatchOption result (begins_short b.now ≡ false) (λ _. begins_short b.now ≡ true) }
 {
     if !ends_short(b[end]) {
@@ -114,7 +97,6 @@ fn two_numbers(b: &[u8], first: u16, second: u16, at: usize, end: usize) -> Opti
 #[tactic(auto, using(crate::proofs::ShortSequences::goes_none, crate::proofs::ShortSequences::goes_on))]
 pub(crate) fn number_at(b: &[u8], at: usize) -> (u16, usize)
     requires within { at + 4 ≤ length b.now }
-    requires short { length b.now ≤ 256 }
     ensures goes { Goes b.now 0 at result.0 result.1 }
     ensures low { at ≤ result.1 }
     ensures high { result.1 ≤ at + 3 }

@@ -2,6 +2,7 @@
 use Rattle.std.proofs.Common.{◌≡◌, ℕ, Bool, true, false, cond, List, [], ◌∷◌, ◌++◌, filter, flat_map, Option, Some, None, refl}
 use Rattle.std.specs.List.{range_with_len}
 use Rattle.std.specs.Prelude.{◌==◌, not}
+use Rattle.std.proofs.lemmas.Bool.{and_parts, false≢true}
 use Rattle.vt_events.specs.declared.event.Event.{Event}
 use Rattle.vt_events.specs.declared.event.Event.TheVariants as event
 use Rattle.vt_procs.specs.declared.ticket.Ticket.TheVariants.{Active, Input}
@@ -9,7 +10,6 @@ use Rattle.vt_screen.specs.declared.out.Out.{Out}
 use Rattle.vt_switch.specs.Acts.{SwitchAct, Release, SetMode, Free}
 use Rattle.vt_world.proofs.Quiet.{are_quiet, is_quiet_act, is_quiet_own, outs_quiet, scan_quiet, sent_quiet, wait_quiet}
 use Rattle.vt_world.proofs.Steps.{by_step}
-use Rattle.vt_world.proofs.Truths.{differ, left_of, right_of}
 use Rattle.vt_world.specs.Acts.{all_acts, request_of}
 use Rattle.vt_world.specs.Deeds.{Deed, Asks, By, Clears, Own, Writes, apply_deed}
 use Rattle.vt_world.specs.Heard.{without_marks}
@@ -26,8 +26,8 @@ use Rattle.vt_world.specs.Wanted.{wanted_in}
 -- v is the machine before the deeds
 quiet_called : (w : WorldState) (p : ℕ) (e : Event) (act : SwitchAct) → is_quiet_act act ≡ true
     → IsCalled w p e act
-quiet_called w p e (Release c q arg) quiet = differ quiet
-quiet_called w p e (SetMode c q m) quiet = differ quiet
+quiet_called w p e (Release c q arg) quiet = absurd (false≢true quiet)
+quiet_called w p e (SetMode c q m) quiet = absurd (false≢true quiet)
 quiet_called w p e act quiet = tt
 
 requests_called : (w : WorldState) (p : ℕ) (e : Event) (wanted : Option ℕ)
@@ -39,9 +39,9 @@ all_quiet : (w : WorldState) (p : ℕ) (e : Event) (v : WorldState) (deeds : Lis
     → are_quiet deeds ≡ true → AllCalled w p e (all_acts v deeds)
 all_quiet w p e v [] quiet = tt
 all_quiet w p e v (By act ∷ deeds) quiet = (
-  quiet_called w p e act (left_of (is_quiet_act act) (are_quiet deeds) quiet),
+  quiet_called w p e act ((and_parts (is_quiet_act act) (are_quiet deeds) quiet).0),
   all_quiet w p e (apply_deed v (By act)) deeds
-      (right_of (is_quiet_act act) (are_quiet deeds) quiet),
+      ((and_parts (is_quiet_act act) (are_quiet deeds) quiet).1),
 )
 all_quiet w p e v (Asks wanted ∷ deeds) quiet =
     let next : WorldState = apply_deed v (Asks wanted) in
@@ -49,7 +49,7 @@ all_quiet w p e v (Asks wanted ∷ deeds) quiet =
     (all_quiet w p e next deeds quiet)
 all_quiet w p e v (Own deed ∷ deeds) quiet =
     all_quiet w p e (apply_deed v (Own deed)) deeds
-    (right_of (is_quiet_own deed) (are_quiet deeds) quiet)
+    ((and_parts (is_quiet_own deed) (are_quiet deeds) quiet).1)
 
 frees_called : (w : WorldState) (p : ℕ) (e : Event) (v : WorldState) (consoles : List ℕ)
     → AllCalled w p e (all_acts v (flat_map free_deeds consoles))

@@ -84,7 +84,7 @@ hears (mark.Hopped hop) callers = waiting_kept (after_success (is_for_display ho
 hears (mark.Ended p) callers =
     map-set (λ (caller : Process). caller.live) callers.list p (dead_process (caller_at callers p))
 
-tells : (w : WorldState) (told : List Mark)
+pub tells : (w : WorldState) (told : List Mark)
     → core (apply_marks w told) ≡ core_of w.display (all_lives_after told (lives w.callers))
 tells w [] = refl
 tells w (m ∷ told) =

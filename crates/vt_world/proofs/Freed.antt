@@ -45,6 +45,9 @@ unused_next : (w : WorldState) (n : ℕ) → n < 64
     ≡ cond (not (is_in_use w n)) (n ∷ unused_from w (n + 1)) (unused_from w (n + 1))
 unused_next w n within = ap (filter (λ c. not (is_in_use w c))) (range_first n n 64 within)
 
+abbrev pub freed_if_unused : WorldState → ℕ → WorldState
+freed_if_unused u n = cond (is_in_use u n) u (apply_deeds u (free_deeds n))
+
 either_frees : (b : Bool) (n : ℕ) (ns : List ℕ) (u v : WorldState)
     → v ≡ cond b u (apply_deeds u (free_deeds n))
     → apply_deeds v (flat_map free_deeds ns) ≡ apply_deeds u (flat_map free_deeds (cond (not b) (n ∷ ns) ns))
@@ -53,7 +56,7 @@ either_frees false n ns u v is = ap (λ (x : WorldState). apply_deeds x (flat_ma
 
 -- one more console is freed, if it isn't in use
 pub frees_next : (w u v : WorldState) (n : ℕ) → n < 64 → is_in_use u n ≡ is_in_use w n
-    → v ≡ cond (is_in_use u n) u (apply_deeds u (free_deeds n))
+    → v ≡ freed_if_unused u n
     → apply_deeds v (flat_map free_deeds (unused_from w (n + 1)))
     ≡ apply_deeds u (flat_map free_deeds (unused_from w n))
 frees_next w u v n within same is =
@@ -69,7 +72,7 @@ either_kept false u v n k other is = ap (λ (x : WorldState). is_in_use x k) is 
 -- and the consoles above stay in use, or out of use
 pub rest_kept : (w u v : WorldState) (n : ℕ)
     → ((k : ℕ) → n ≤ k → is_in_use u k ≡ is_in_use w k)
-    → v ≡ cond (is_in_use u n) u (apply_deeds u (free_deeds n))
+    → v ≡ freed_if_unused u n
     → (k : ℕ) → n + 1 ≤ k → is_in_use v k ≡ is_in_use w k
 rest_kept w u v n before is k above =
     either_kept (is_in_use u n) u v n k (λ same. absurd (let no : ⊥ = omega (arith, above, same) in no)) is

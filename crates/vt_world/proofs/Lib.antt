@@ -1,5 +1,5 @@
 pub mod Ages
-mod Allocation
+pub mod Allocation
 mod Alters
 mod Answered
 mod Bells
@@ -7,7 +7,7 @@ mod Called
 mod Cores
 mod Displays
 mod Freed
-mod Histories
+pub mod Histories
 mod Lives
 mod Masks
 mod Moments
@@ -27,7 +27,6 @@ mod Taping
 mod Tellings
 mod Traces
 mod Translations
-mod Truths
 mod Typed
 mod Unchanged
 mod Untouched

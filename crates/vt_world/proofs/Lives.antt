@@ -1,10 +1,5 @@
--- Which callers are alive after a mark, and the marks of a hop.
-use Rattle.std.proofs.Common.{◌≡◌, ℕ, List, [], ◌∷◌, map, Option, Some, refl, sym, ap, ◌∙◌}
-use Rattle.std.proofs.lemmas.List.{map-set}
-use Rattle.std.specs.Prelude.{Bool, false, slice_set}
-use Rattle.vt_procs.specs.Callers.{caller_at, dead_process}
-use Rattle.vt_procs.specs.Tickets.{after_display_of}
-use Rattle.vt_procs.specs.declared.process.Process.{Process}
+-- The marks of an end and of a hop.
+use Rattle.std.proofs.Common.{◌≡◌, ℕ, [], ◌∷◌, Option, Some, sym, ap, ◌∙◌}
 use Rattle.vt_switch.specs.Acts.{End}
 use Rattle.vt_switch.specs.Deaths.{after_process_end, ended_hop}
 use Rattle.vt_switch.specs.Display.{console}
@@ -14,31 +9,10 @@ use Rattle.vt_switch.specs.declared.handling.Handling.TheVariants.{Process as Ha
 use Rattle.vt_switch.specs.declared.handshake.Handshake.{Handshake}
 use Rattle.vt_switch.specs.declared.hop.Hop.{Hop}
 use Rattle.vt_switch.specs.declared.mark.Mark.TheVariants as mark
+use Rattle.vt_world.proofs.Cores.{tells}
 use Rattle.vt_world.specs.Deeds.{after_switch_act}
 use Rattle.vt_world.specs.Heard.{apply_mark, apply_marks}
 use Rattle.vt_world.specs.State.{WorldState, core}
-
-abbrev pub lives : List Process → List Bool
-lives list = map (λ (caller : Process). caller.live) list
-
--- a hop ends tickets, and leaves which callers are alive
-lives-after_display_of : (c : ℕ) (accepter : Option (ℕ × ℕ)) (list : List Process)
-    → lives (after_display_of c (record { list = list; accepter = accepter })).list ≡ lives list
-lives-after_display_of c accepter [] = refl
-lives-after_display_of c accepter (caller ∷ list) =
-    ap (λ more. caller.live ∷ more) (lives-after_display_of c accepter list)
-
-pub core_hop : (w : WorldState) (hop : Hop) → core (apply_mark w (mark.Hopped hop)) ≡ core w
-core_hop w hop =
-    λ i. record { display = w.display; live = lives-after_display_of hop.to w.callers.accepter w.callers.list i }
-
--- a caller that ended is dead
-pub core_end : (w : WorldState) (p : ℕ)
-    → core (apply_mark w (mark.Ended p)) ≡ record (core w) { live = slice_set (core w).live p false }
-core_end w p = λ i. record {
-  display = w.display;
-  live = map-set (λ (caller : Process). caller.live) w.callers.list p (dead_process (caller_at w.callers p)) i;
-}
 
 -- the marks of an end, and of the hop that it makes
 pub end_told : (w v : WorldState) (p : ℕ) (hop : Option Hop)
@@ -49,7 +23,7 @@ end_told w v p hop heard_it is =
     let dead_process : WorldState = record w { display = after_process_end w.display p } in
     let after : WorldState = apply_mark dead_process (mark.Ended p) in
     ap (λ (u : WorldState). apply_marks u (hop_marks (core u) hop)) heard_it
-    ∙ ap (λ (k : Core). apply_marks after (hop_marks k hop)) (core_end dead_process p)
+    ∙ ap (λ (k : Core). apply_marks after (hop_marks k hop)) (tells dead_process (mark.Ended p ∷ []))
     ∙ ap (λ (h : Option Hop). apply_marks after (hop_marks (core_after (core w) (End p)) h)) is
 
 -- the marks of a hop are the hop and the acquire signal after it
@@ -60,5 +34,5 @@ pub hop_told : (w v : WorldState) (hop : Hop) (handshake : Handshake)
 hop_told w v hop handshake heard_it handling =
     let after : WorldState = apply_mark w (mark.Hopped hop) in
     ap (λ (u : WorldState). apply_marks u (raise (core u) handshake.owner handshake.acqsig)) heard_it
-    ∙ ap (λ (k : Core). apply_marks after (raise k handshake.owner handshake.acqsig)) (core_hop w hop)
+    ∙ ap (λ (k : Core). apply_marks after (raise k handshake.owner handshake.acqsig)) (tells w (mark.Hopped hop ∷ []))
     ∙ ap (λ (h : Handling). apply_marks after (raise_acquire (core w) h)) (sym handling)

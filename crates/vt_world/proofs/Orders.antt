@@ -2,6 +2,7 @@
 use Rattle.std.proofs.Common.{◌≡◌, ℕ, Bool, true, false, cond, List, [], ◌∷◌, ◌++◌, filter, flat_map, Option, Some, None, refl}
 use Rattle.std.specs.List.{range_with_len}
 use Rattle.std.specs.Prelude.{unwrap_or, ◌&&◌, ◌||◌, ◌==◌, not}
+use Rattle.std.proofs.lemmas.Bool.{and_from, and_parts}
 use Rattle.key_machine.specs.declared.key_out.KeyOut.{KeyOut}
 use Rattle.key_machine.specs.declared.key_out.KeyOut.TheVariants as heard
 use Rattle.vt_base.specs.Keyboards.{keyboard_of}
@@ -15,7 +16,6 @@ use Rattle.vt_screen.specs.declared.out.Out.{Out}
 use Rattle.vt_screen.specs.declared.out.Out.TheVariants as outs
 use Rattle.vt_switch.specs.Acts.{SwitchAct, End, SetKd}
 use Rattle.vt_switch.specs.Moments.{is_ordered, is_request, settles}
-use Rattle.vt_world.proofs.Truths.{both_of, left_of, right_of}
 use Rattle.vt_world.specs.Acts.{all_acts, request_of}
 use Rattle.vt_world.specs.Deeds.{Deed, Asks, By, Own, Puts, Raises, apply_deed}
 use Rattle.vt_world.specs.Inputs.{input_at}
@@ -54,7 +54,7 @@ less_asked : (acts : List SwitchAct) → is_ordered true acts ≡ true → is_or
 less_asked [] ordered = refl
 less_asked (act ∷ acts) ordered =
     let more : is_ordered true acts ≡ true =
-    right_of (not (settles act)) (is_ordered true acts) ordered in
+    (and_parts (not (settles act)) (is_ordered true acts) ordered).1 in
     at_either (is_request act) acts more (less_asked acts more)
 
 after_wanted : (asked : Bool) (w : WorldState) (wanted : Option ℕ) (acts : List SwitchAct)
@@ -76,19 +76,17 @@ acts_ordered asked w [] ordered = refl
 acts_ordered asked w (By act ∷ deeds) ordered =
     let here : Bool = not (asked && settles act) in
     let rest : Bool = in_order (asked || is_request act) deeds in
-    both_of here (is_ordered (asked || is_request act) (all_acts (apply_deed w (By act)) deeds))
-    (left_of here rest ordered)
-    (acts_ordered (asked || is_request act) (apply_deed w (By act)) deeds (right_of here rest ordered))
+    and_from here (is_ordered (asked || is_request act) (all_acts (apply_deed w (By act)) deeds)) ((and_parts here rest ordered).0) (acts_ordered (asked || is_request act) (apply_deed w (By act)) deeds ((and_parts here rest ordered).1))
 acts_ordered asked w (Asks wanted ∷ deeds) ordered =
     let rest : Bool = in_order (asked || true) deeds in
     after_wanted asked w (wanted_in w.display wanted) (all_acts (apply_deed w (Asks wanted)) deeds)
     (acts_ordered (asked || true) (apply_deed w (Asks wanted)) deeds
-    (right_of (not (asked && false)) rest ordered))
+    ((and_parts (not (asked && false)) rest ordered).1))
 acts_ordered asked w (Own deed ∷ deeds) ordered =
     let rest : Bool = in_order (asked || false) deeds in
     or_not asked (all_acts (apply_deed w (Own deed)) deeds)
     (acts_ordered (asked || false) (apply_deed w (Own deed)) deeds
-    (right_of (not (asked && ends (Own deed))) rest ordered))
+    ((and_parts (not (asked && ends (Own deed))) rest ordered).1))
 
 -- what a text says asks, and ends nothing
 outs_ordered : (asked : Bool) (c : ℕ) (said : List Out)

@@ -1,12 +1,13 @@
 -- Each process that handles the switches of a console is alive, also after a change of the machine.
-use Rattle.std.proofs.Common.{◌≡◌, ℕ, zero, suc, Bool, true, false, true≢false, cond, List, [], ◌∷◌, get_or, map, set, Option, Some, None, refl, sym, ap, subst, ◌∙◌}
+use Rattle.std.proofs.Common.{◌≡◌, ℕ, zero, suc, Bool, true, false, true≢false, cond, List, [], ◌∷◌, get_or, map, Option, Some, None, refl, sym, ap, subst, ◌∙◌}
 use Rattle.std.proofs.Math.ListN.{get_or-map}
 use Rattle.std.proofs.lemmas.List.{map-set}
 use Rattle.std.specs.List.{range_with_len}
 use Rattle.std.specs.Prelude.{is_some}
+use Rattle.std.proofs.lemmas.Option.{none-some}
 use Rattle.vt_base.specs.ConsoleSet.{is_among}
 use Rattle.vt_base.specs.declared.vt_mode.VtMode.{VtMode}
-use Rattle.vt_procs.specs.Callers.{Callers, caller_at, after_exit, dead_process, is_live, no_caller}
+use Rattle.vt_procs.specs.Callers.{Callers, caller_at, after_exit, dead_process, is_live, no_caller, with_caller}
 use Rattle.vt_procs.specs.declared.process.Process.{Process}
 use Rattle.vt_switch.specs.Acts.{SwitchAct, SetMode, End, after}
 use Rattle.vt_switch.specs.Calls.{first_display}
@@ -14,7 +15,7 @@ use Rattle.vt_switch.specs.Display.{Display, fresh, or_fresh, owner_of}
 use Rattle.vt_switch.specs.Law.{OwnersLive, OwnersStayLive}
 use Rattle.vt_switch.specs.Moments.{Core, core_after}
 use Rattle.vt_switch.specs.declared.console.Console.{Console}
-use Rattle.vt_world.proofs.Cores.{lives}
+use Rattle.vt_world.proofs.Cores.{lives, with_kept}
 use Rattle.vt_world.proofs.Stays.{still_alike, stays}
 use Rattle.vt_world.specs.State.{IsWorld, core_of}
 use Rattle.vt_world.specs.Terminals.{TerminalState}
@@ -25,11 +26,11 @@ pub after_act : OwnersStayLive → (k l : Core) (act : SwitchAct) → core_after
 after_act law k l act is owners = subst OwnersLive is (law k ((act ∷ []) ∷ []) owners)
 
 -- an act that leaves which consoles are allocated, and which callers are alive
-pub still_world : OwnersStayLive → (terminals : List (Option TerminalState)) (d e : Display)
-    (callers : Callers) (act : SwitchAct) → stays act ≡ true
+pub still_world : {terminals : List (Option TerminalState)} {d e : Display} {callers : Callers}
+    → OwnersStayLive → (act : SwitchAct) → stays act ≡ true
     → core_after (core_of d callers) act ≡ core_of (after d act) callers
     → e ≡ after d act → IsWorld terminals d callers → IsWorld terminals e callers
-still_world law terminals d e callers act it same is w = record {
+still_world {terminals = terminals} {d = d} {e = e} {callers = callers} law act it same is w = record {
   alike = still_alike terminals d e act it is w.alike;
   owners =
       after_act law (core_of d callers) (core_of e callers) act
@@ -37,17 +38,23 @@ still_world law terminals d e callers act it same is w = record {
 }
 
 -- other terminals, of the same consoles
-pub alike_world : (old new : List (Option TerminalState)) (d : Display) (callers : Callers)
+pub alike_world : {old new : List (Option TerminalState)} {d : Display} {callers : Callers}
     → map is_some new ≡ map is_some old → IsWorld old d callers → IsWorld new d callers
-alike_world old new d callers same w = record { alike = same ∙ w.alike; owners = w.owners }
+alike_world same w = record { alike = same ∙ w.alike; owners = w.owners }
 
 -- other callers, of which the same are alive
-pub same_live : (terminals : List (Option TerminalState)) (d : Display) (old new : Callers)
+pub same_live : {terminals : List (Option TerminalState)} {d : Display} {old new : Callers}
     → lives new ≡ lives old → IsWorld terminals d old → IsWorld terminals d new
-same_live terminals d old new same w = record {
+same_live {d = d} same w = record {
   alike = w.alike;
   owners = subst (λ (live : List Bool). OwnersLive (record { display = d; live = live })) (sym same) w.owners;
 }
+
+-- another process at the place of p, alive if p was
+pub one_kept : {terminals : List (Option TerminalState)} {d : Display} {old new : Callers} (p : ℕ) (x : Process)
+    → new ≡ with_caller old p x → x.live ≡ (caller_at old p).live → IsWorld terminals d old
+    → IsWorld terminals d new
+one_kept {old = old} p x is same w = same_live (ap lives is ∙ with_kept old p x same) w
 
 -- the callers that are alive in the list are those of the core
 live_in : (callers : Callers) (p : ℕ) → get_or (lives callers) p false ≡ is_live callers p
@@ -72,29 +79,6 @@ end_core d callers p =
     ap (λ (live : List Bool). record { display = after d (End p); live = live })
     (sym (map-set (λ (caller : Process). caller.live) callers.list p (dead_process (caller_at callers p))))
 
--- a caller that is alive after the death of another one was alive before
-lived : (live : List Bool) (p q : ℕ) → get_or (set live p false) q false ≡ true
-    → get_or live q false ≡ true
-lived [] p q it = it
-lived (b ∷ live) zero zero it = absurd (true≢false (sym it))
-lived (b ∷ live) zero (suc q) it = it
-lived (b ∷ live) (suc p) zero it = it
-lived (b ∷ live) (suc p) (suc q) it = lived live p q it
-
--- the consoles of a caller lose their owner before it dies
-pub given_back : OwnersStayLive → (terminals : List (Option TerminalState)) (d e : Display)
-    (callers : Callers) (p : ℕ) → e ≡ after d (End p)
-    → IsWorld terminals d callers → IsWorld terminals e callers
-given_back law terminals d e callers p is w = record {
-  alike = still_alike terminals d e (End p) refl is w.alike;
-  owners = λ c q owned.
-      lived (lives callers) p q
-      (after_act law (core_of d callers) (record { display = e; live = set (lives callers) p false })
-      (End p)
-      (ap (λ (x : Display). record { display = x; live = set (lives callers) p false }) (sym is))
-      w.owners c q owned);
-}
-
 -- at a start every console is fresh
 fresh_if : (b : Bool) → or_fresh (cond b (Some fresh) None) ≡ fresh
 fresh_if true = refl
@@ -107,13 +91,7 @@ all_fresh consoles [] c = refl
 all_fresh consoles (n ∷ numbers) zero = fresh_if (is_among consoles n)
 all_fresh consoles (n ∷ numbers) (suc c) = all_fresh consoles numbers c
 
-nobody : {X : Type 0} (p : ℕ) → None ≡ Some p → X
-nobody p same = absurd (true≢false (sym (ap (λ (o : Option ℕ). is_some o) same)))
-
 pub first_owners : (consoles front : ℕ) (callers : Callers)
     → OwnersLive (core_of (first_display consoles front) callers)
 first_owners consoles front callers c p owned =
-    nobody p
-    (sym (ap (λ (place : Console). owner_of place.handling)
-    (all_fresh consoles (range_with_len 0 64) c))
-    ∙ owned)
+    absurd (none-some p (sym (ap (λ (place : Console). owner_of place.handling) (all_fresh consoles (range_with_len 0 64) c)) ∙ owned))

@@ -1,9 +1,10 @@
 -- The screen law of histories from a start.
-use Rattle.std.proofs.Common.{◌≡◌, ◌<◌, ℕ, zero, suc, Bool, true, false, true≢false, cond, List, [], ◌∷◌, length, get_or, map, set, Option, Some, None, is_some, refl, sym, ap, subst, ◌∙◌}
-use Rattle.std.proofs.Math.ListN.{get_or-map}
+use Rattle.std.proofs.Common.{◌≡◌, ◌<◌, ℕ, zero, suc, Bool, true, false, cond, List, [], ◌∷◌, length, get_or, map, set, Option, Some, None, is_some, refl, sym, ap, subst, ◌∙◌}
 use Rattle.std.proofs.lemmas.List.{get_or-set_other, get_or-set_same, length-set}
 use Rattle.std.specs.List.{range_with_len}
 use Rattle.std.specs.Prelude.{◌==◌, option_map}
+use Rattle.std.proofs.lemmas.Bool.{eqb-false, eqb-true}
+use Rattle.std.proofs.lemmas.Option.{none-some, same_Some}
 use Rattle.key_tables.specs.Tables.{Tables}
 use Rattle.vt_base.specs.ConsoleSet.{is_among}
 use Rattle.vt_events.specs.declared.entry.Entry.{Entry}
@@ -18,10 +19,10 @@ use Rattle.vt_switch.specs.Moments.{core_after, marks, raise}
 use Rattle.vt_switch.specs.declared.mark.Mark as told
 use Rattle.vt_units.specs.Run.{Reached}
 use Rattle.vt_world.proofs.Allocation.{start_has, step_keeps}
+use Rattle.vt_world.proofs.Places.{taken_alike}
 use Rattle.vt_world.proofs.Reruns.{tape_changes, tape_writes}
 use Rattle.vt_world.proofs.Steps.{by_step}
 use Rattle.vt_world.proofs.Taping.{Tape, accepted_tape, begun, refused_tape, tape_by, tape_of_deeds, taped}
-use Rattle.vt_world.proofs.Truths.{equal, unequal}
 use Rattle.vt_world.specs.Deeds.{Deed, By, Asks, Own, OwnDeed, Starts, Clears, Writes, Alters, Raises, after_switch_act, apply_deeds, apply_deed, apply_own_deed, after_request}
 use Rattle.vt_world.specs.Heard.{without_marks, apply_mark, apply_marks}
 use Rattle.vt_world.specs.History.{replay}
@@ -53,18 +54,6 @@ record IsShown (rows cols c new_rows new_cols : ℕ) (terminals : List (Option T
 abbrev ShownIn : ℕ → ℕ → ℕ → WorldState → Tape → Type 0
 ShownIn rows cols c w tape = IsShown rows cols c w.rows w.cols w.terminals tape
 
-machine_or : Reached Screen → Option (Reached Screen) → Reached Screen
-machine_or m None = m
-machine_or m (Some other) = other
-
-same_machine : (a b : Reached Screen) → Some a ≡ Some b → a ≡ b
-unfolding machine_or
-same_machine a b same = ap (machine_or a) same
-
-no_machine : {X : Type 0} (a : Reached Screen) → None ≡ Some a → X
-no_machine a same =
-    absurd (true≢false (sym (ap (λ (m : Option (Reached Screen)). is_some m) same)))
-
 -- the invariant that each change of a terminal and of its tape keeps
 abbrev Keeps : ℕ → ℕ → (Option TerminalState → Option TerminalState) → (Tape → Tape) → Type 0
 Keeps rows cols alter add =
@@ -77,9 +66,9 @@ starts_show rows cols new_rows new_cols rows_are cols_are None None shows =
     ap (λ r. machine_of (Some (new_terminal r new_cols))) rows_are
     ∙ ap (λ k. machine_of (Some (new_terminal rows k))) cols_are
 starts_show rows cols new_rows new_cols rows_are cols_are None (Some tape) shows =
-    no_machine (screen_of rows cols tape) shows
+    absurd (none-some (screen_of rows cols tape) shows)
 starts_show rows cols new_rows new_cols rows_are cols_are (Some t) None shows =
-    no_machine t.machine (sym shows)
+    absurd (none-some t.machine (sym shows))
 starts_show rows cols new_rows new_cols rows_are cols_are (Some t) (Some tape) shows = shows
 
 clears_show : (rows cols : ℕ) → Keeps rows cols (λ terminal. None) (λ tape. None)
@@ -89,22 +78,22 @@ writes_show : RunLaws → (rows cols : ℕ) (bytes : List ℕ)
     → Keeps rows cols (option_map (written_on bytes)) (taped (map byte bytes))
 writes_show laws rows cols bytes None None shows = refl
 writes_show laws rows cols bytes None (Some tape) shows =
-    no_machine (screen_of rows cols tape) shows
-writes_show laws rows cols bytes (Some t) None shows = no_machine t.machine (sym shows)
+    absurd (none-some (screen_of rows cols tape) shows)
+writes_show laws rows cols bytes (Some t) None shows = absurd (none-some t.machine (sym shows))
 writes_show laws rows cols bytes (Some t) (Some tape) shows =
     ap (λ (m : Reached Screen). Some (after m bytes))
-    (same_machine t.machine (screen_of rows cols tape) shows)
+    (same_Some t.machine (screen_of rows cols tape) shows)
     ∙ ap (λ (m : Reached Screen). Some m)
     (tape_writes laws.stretches laws.cuts rows cols tape bytes)
 
 alters_show : RunLaws → (rows cols : ℕ) (m : Change)
     → Keeps rows cols (option_map (altered_by m)) (taped (change m ∷ []))
 alters_show laws rows cols m None None shows = refl
-alters_show laws rows cols m None (Some tape) shows = no_machine (screen_of rows cols tape) shows
-alters_show laws rows cols m (Some t) None shows = no_machine t.machine (sym shows)
+alters_show laws rows cols m None (Some tape) shows = absurd (none-some (screen_of rows cols tape) shows)
+alters_show laws rows cols m (Some t) None shows = absurd (none-some t.machine (sym shows))
 alters_show laws rows cols m (Some t) (Some tape) shows =
     ap (λ (at : Reached Screen). Some (with_change m at))
-    (same_machine t.machine (screen_of rows cols tape) shows)
+    (same_Some t.machine (screen_of rows cols tape) shows)
     ∙ ap (λ (at : Reached Screen). Some at) (tape_changes laws.cuts rows cols tape m)
 
 -- such a change at console n, as console c sees it
@@ -118,13 +107,13 @@ seen_change : (rows cols c n : ℕ) (here : Bool) (alter : Option TerminalState 
     → Shows rows cols (terminal_at terminals c) tape
     → Shows rows cols (terminal_at (changed alter n terminals) c) (cond here (add tape) tape)
 seen_change rows cols c n true alter add terminals tape is room keeps shows =
-    ap (λ k. machine_of (terminal_at (changed alter k terminals) c)) (equal n c is)
+    ap (λ k. machine_of (terminal_at (changed alter k terminals) c)) (eqb-true n c is)
     ∙ ap machine_of
     (get_or-set_same terminals c (alter (terminal_at terminals c)) None room)
     ∙ keeps (terminal_at terminals c) tape shows
 seen_change rows cols c n false alter add terminals tape is room keeps shows =
     ap machine_of
-    (get_or-set_other terminals n c (alter (terminal_at terminals n)) None (unequal n c is))
+    (get_or-set_other terminals n c (alter (terminal_at terminals n)) None (λ e. eqb-false n c is (sym e)))
     ∙ shows
 
 is_changed : (rows cols c n new_rows new_cols : ℕ)
@@ -200,19 +189,12 @@ screen_there : (rows cols : ℕ) (tape : Tape)
 screen_there rows cols None = refl
 screen_there rows cols (Some items) = refl
 
-allocated_there : (w : WorldState) (c : ℕ) → HasTerminals w
-    → is_some (terminal_at w.terminals c) ≡ is_allocated w.display c
-allocated_there w c has =
-    sym (get_or-map is_some w.terminals c None)
-    ∙ ap (λ (list : List Bool). get_or list c false) has
-    ∙ get_or-map is_some w.display.consoles c None
-
 tape_there : (rows cols c : ℕ) (w : WorldState) (tape : Tape) → HasTerminals w
     → ShownIn rows cols c w tape → is_some tape ≡ is_allocated w.display c
 tape_there rows cols c w tape has shown =
     screen_there rows cols tape
     ∙ sym (ap (λ (m : Option (Reached Screen)). is_some m) shown.shows)
-    ∙ machine_there (terminal_at w.terminals c) ∙ allocated_there w c has
+    ∙ machine_there (terminal_at w.terminals c) ∙ taken_alike w.terminals w.display.consoles c has
 
 -- an event
 abbrev Follows : ℕ → ℕ → ℕ → WorldState → ℕ → Event → Tape → Outcome → Type 0

@@ -2,6 +2,7 @@
 use Rattle.std.proofs.Common.{◌≡◌, ℕ, ◌⊎◌, inl, inr, Bool, true, false, cond, List, [], ◌∷◌, ◌++◌, filter, flat_map, map, Option, Some, None, is_some, refl, sym, ap, subst, ◌∙◌, append-nil}
 use Rattle.std.specs.List.{range_with_len}
 use Rattle.std.specs.Prelude.{◌==◌, not, option_map, unwrap_or}
+use Rattle.std.proofs.lemmas.Bool.{and_parts, false≢true}
 use Rattle.call_bytes.specs.Colours.{colours_in}
 use Rattle.call_bytes.specs.Words.{words_in}
 use Rattle.vt_events.specs.declared.event.Event.{Event}
@@ -12,7 +13,6 @@ use Rattle.vt_procs.specs.declared.ticket.Ticket.TheVariants.{Active, Input}
 use Rattle.vt_screen.specs.Tape.{Taped, byte, change, palette, resize, user_map}
 use Rattle.vt_screen.specs.declared.out.Out.{Out}
 use Rattle.vt_world.proofs.Quiet.{are_quiet, is_quiet_act, is_quiet_own, outs_quiet, scan_quiet, sent_quiet, wait_quiet}
-use Rattle.vt_world.proofs.Truths.{differ, left_of, right_of}
 use Rattle.vt_world.specs.Deeds.{Deed, Alters, Asks, By, Clears, Own, OwnDeed, Starts, Writes}
 use Rattle.vt_world.specs.Events.{row}
 use Rattle.vt_world.specs.Rows.{free_deeds, out_deeds}
@@ -48,10 +48,10 @@ tape_of_deeds c tape (Own deed ∷ deeds) = tape_of_deeds c (tape_by c tape deed
 
 quiet_own : (c : ℕ) (tape : Tape) (deed : OwnDeed) → is_quiet_own deed ≡ true
     → tape_by c tape deed ≡ tape
-quiet_own c tape (Starts n) quiet = differ quiet
-quiet_own c tape (Clears n) quiet = differ quiet
-quiet_own c tape (Writes n bytes) quiet = differ quiet
-quiet_own c tape (Alters n m) quiet = differ quiet
+quiet_own c tape (Starts n) quiet = absurd (false≢true quiet)
+quiet_own c tape (Clears n) quiet = absurd (false≢true quiet)
+quiet_own c tape (Writes n bytes) quiet = absurd (false≢true quiet)
+quiet_own c tape (Alters n m) quiet = absurd (false≢true quiet)
 quiet_own c tape deed quiet = refl
 
 -- quiet deeds leave the tape
@@ -59,11 +59,11 @@ leaves : (c : ℕ) (tape : Tape) (deeds : List Deed) → are_quiet deeds ≡ tru
     → tape_of_deeds c tape deeds ≡ tape
 leaves c tape [] quiet = refl
 leaves c tape (By act ∷ deeds) quiet =
-    leaves c tape deeds (right_of (is_quiet_act act) (are_quiet deeds) quiet)
+    leaves c tape deeds ((and_parts (is_quiet_act act) (are_quiet deeds) quiet).1)
 leaves c tape (Asks wanted ∷ deeds) quiet = leaves c tape deeds quiet
 leaves c tape (Own deed ∷ deeds) quiet =
-    leaves c (tape_by c tape deed) deeds (right_of (is_quiet_own deed) (are_quiet deeds) quiet)
-    ∙ quiet_own c tape deed (left_of (is_quiet_own deed) (are_quiet deeds) quiet)
+    leaves c (tape_by c tape deed) deeds ((and_parts (is_quiet_own deed) (are_quiet deeds) quiet).1)
+    ∙ quiet_own c tape deed ((and_parts (is_quiet_own deed) (are_quiet deeds) quiet).0)
 
 -- the new tape is none, or the old one with these items at its end
 abbrev Grows : List Taped → Tape → Tape → Type 0
@@ -157,11 +157,11 @@ row_accepts c w p e = nothing_added (row w p e).reply
 is_after : (allocated : Bool) (items : List Taped) (tape new : Tape) → is_some new ≡ allocated
     → Grows items tape new → new ≡ tape_after allocated items tape
 is_after true items tape new there (inl none) =
-    differ (sym (ap (λ (t : Tape). is_some t) none) ∙ there)
+    absurd (false≢true (sym (ap (λ (t : Tape). is_some t) none) ∙ there))
 is_after true items tape new there (inr more) = more
 is_after false items tape new there (inl none) = none
 is_after false items tape new there (inr more) =
-    differ (sym there ∙ ap (λ (t : Tape). is_some t) more)
+    absurd (false≢true (sym there ∙ ap (λ (t : Tape). is_some t) more))
 
 -- the tape after the deeds of an event that isn't refused, and of a refused one
 pub accepted_tape : (c : ℕ) (tape : Tape) (w : WorldState) (p : ℕ) (e : Event) (allocated : Bool)

@@ -1,6 +1,7 @@
 -- The marks of an event about the display are those of its acts, one after another.
 use Rattle.std.proofs.Common.{◌≡◌, ℕ, Bool, true, false, cond, List, [], ◌∷◌, ◌++◌, Option, Some, None, refl, sym, ap, ◌∙◌}
 use Rattle.std.specs.Prelude.{◌&&◌, ◌||◌, not}
+use Rattle.std.proofs.lemmas.Bool.{and_parts, false≢true, or_left, or_right}
 use Rattle.vt_events.specs.declared.event.Event.{Event}
 use Rattle.vt_switch.specs.Acts.{SwitchAct, Allocate, Request, Release, SetMode, SetKd, Lock, Free, End, hop_of}
 use Rattle.vt_switch.specs.Display.{console, is_allocated}
@@ -15,7 +16,6 @@ use Rattle.vt_world.proofs.Cores.{acted_core, own_core}
 use Rattle.vt_world.proofs.Orders.{ends, in_order, row_ordered}
 use Rattle.vt_world.proofs.Steps.{by_step}
 use Rattle.vt_world.proofs.Traces.{traces_apply_marks_deeds}
-use Rattle.vt_world.proofs.Truths.{differ, left_of, right_of}
 use Rattle.vt_world.specs.Acts.{all_acts, request_of}
 use Rattle.vt_world.specs.Deeds.{Deed, By, Asks, Own, OwnDeed, Raises, after_switch_act, apply_deed, apply_own_deed, after_request}
 use Rattle.vt_world.specs.Heard.{without_marks}
@@ -37,7 +37,7 @@ request_alone : (n : ℕ) (b : List Mark) → raises_first b ≡ false
     → news (mark.Asked n ∷ b) ≡ news b
 request_alone n [] calm = refl
 request_alone n (mark.Asked m ∷ b) calm = refl
-request_alone n (mark.Raised p signal ∷ b) calm = differ (sym calm)
+request_alone n (mark.Raised p signal ∷ b) calm = absurd (false≢true (sym calm))
 request_alone n (mark.Hopped hop ∷ b) calm = refl
 request_alone n (mark.Ended p ∷ b) calm = refl
 
@@ -129,41 +129,33 @@ record Tells (asked : Bool) (marked : List Mark) (k : Core) (acts : List SwitchA
   same : news marked ≡ news_of k acts
   calm : asked ≡ true → raises_first marked ≡ false
 
-or_is : (a b : Bool) → a ≡ true → (a || b) ≡ true
-or_is true b is = refl
-or_is false b is = differ is
-
-is_or : (a b : Bool) → b ≡ true → (a || b) ≡ true
-is_or true b is = refl
-is_or false b is = is
-
 by_act : (asked : Bool) (w : WorldState) (act : SwitchAct) (more : List Mark)
     (acts : List SwitchAct) → Tells (asked || is_request act) more (core (after_switch_act w act)) acts
     → Tells asked (marks (core w) act ++ more) (core w) (act ∷ acts)
 by_act asked w act more acts rest = record {
-  same = act_then (core w) act more (λ is. rest.calm (is_or asked (is_request act) is))
+  same = act_then (core w) act more (λ is. rest.calm (or_right asked (is_request act) is))
       ∙ ap (λ (list : List News). news (marks (core w) act) ++ list)
       (rest.same ∙ ap (λ (k : Core). news_of k acts) (acted_core w act));
-  calm = λ is. act_first (core w) act more (rest.calm (or_is asked (is_request act) is));
+  calm = λ is. act_first (core w) act more (rest.calm (or_left asked (is_request act) is));
 }
 
 by_request : (asked : Bool) (w : WorldState) (wanted : Option ℕ) (more : List Mark)
     (acts : List SwitchAct) → Tells (asked || true) more (core (after_request w wanted)) acts
     → Tells asked (marks_of_request w wanted ++ more) (core w) (request_of wanted ++ acts)
 by_request asked w None more acts rest =
-    record { same = rest.same; calm = λ is. rest.calm (or_is asked true is) }
+    record { same = rest.same; calm = λ is. rest.calm (or_left asked true is) }
 by_request asked w (Some n) more acts rest = by_act asked w (Request n) more acts rest
 
 same_core : (asked : Bool) (more : List Mark) (j k : Core) (acts : List SwitchAct) → j ≡ k
     → Tells (asked || false) more j acts → Tells asked more k acts
 same_core asked more j k acts is rest = record {
   same = rest.same ∙ ap (λ (c : Core). news_of c acts) is;
-  calm = λ asks. rest.calm (or_is asked false asks);
+  calm = λ asks. rest.calm (or_left asked false asks);
 }
 
 not_asked : {X : Type 0} (asked : Bool) → not (asked && true) ≡ true → asked ≡ true → X
-not_asked true ordered is = differ ordered
-not_asked false ordered is = differ is
+not_asked true ordered is = absurd (false≢true ordered)
+not_asked false ordered is = absurd (false≢true is)
 
 by_own : (asked : Bool) (w : WorldState) (deed : OwnDeed) (more : List Mark)
     (acts : List SwitchAct) → not (asked && ends (Own deed)) ≡ true
@@ -187,19 +179,19 @@ deeds_tell asked w (By act ∷ deeds) ordered =
     let later : Bool = in_order (asked || is_request act) deeds in
     by_act asked w act (all_marks next deeds) (all_acts next deeds)
     (deeds_tell (asked || is_request act) next deeds
-    (right_of (not (asked && ends (By act))) later ordered))
+    ((and_parts (not (asked && ends (By act))) later ordered).1))
 deeds_tell asked w (Asks wanted ∷ deeds) ordered =
     let next : WorldState = apply_deed w (Asks wanted) in
     let later : Bool = in_order (asked || true) deeds in
     by_request asked w (wanted_in w.display wanted) (all_marks next deeds) (all_acts next deeds)
-    (deeds_tell (asked || true) next deeds (right_of (not (asked && false)) later ordered))
+    (deeds_tell (asked || true) next deeds ((and_parts (not (asked && false)) later ordered).1))
 deeds_tell asked w (Own deed ∷ deeds) ordered =
     let next : WorldState = apply_deed w (Own deed) in
     let later : Bool = in_order (asked || false) deeds in
     by_own asked w deed (all_marks next deeds) (all_acts next deeds)
-    (left_of (not (asked && ends (Own deed))) later ordered)
+    ((and_parts (not (asked && ends (Own deed))) later ordered).0)
     (deeds_tell (asked || false) next deeds
-    (right_of (not (asked && ends (Own deed))) later ordered))
+    ((and_parts (not (asked && ends (Own deed))) later ordered).1))
 
 row_tells : (w : WorldState) (p : ℕ) (e : Event)
     → news (all_marks w (row w p e).deeds) ≡ news_of (core w) (all_acts w (row w p e).deeds)

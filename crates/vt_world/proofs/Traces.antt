@@ -1,6 +1,7 @@
 -- The marks of an event: those of its acts, and signals that were raised without an act.
 use Rattle.std.proofs.Common.{◌≡◌, ℕ, Bool, true, false, cond, List, [], ◌∷◌, ◌++◌, Option, Some, None, refl, sym, ap, subst, subst₂, ◌∙◌, append_assoc, append-nil}
 use Rattle.std.specs.List.{list_all}
+use Rattle.std.proofs.lemmas.Bool.{false≢true}
 use Rattle.vt_switch.specs.Acts.{SwitchAct, Request}
 use Rattle.vt_switch.specs.Moments.{Core, core_after, hops, is_live, marks, raise}
 use Rattle.vt_switch.specs.declared.hop.Hop.{Hop}
@@ -8,7 +9,6 @@ use Rattle.vt_switch.specs.declared.mark.Mark.{Mark}
 use Rattle.vt_switch.specs.declared.mark.Mark.TheVariants as mark
 use Rattle.vt_world.proofs.Cores.{acted_core, own_core}
 use Rattle.vt_world.proofs.Steps.{by_step}
-use Rattle.vt_world.proofs.Truths.{differ}
 use Rattle.vt_world.specs.Acts.{all_acts, event_acts, request_of}
 use Rattle.vt_world.specs.Deeds.{Deed, By, Asks, Own, OwnDeed, Raises, after_switch_act, apply_deeds, apply_deed, apply_own_deed, after_request}
 use Rattle.vt_world.specs.Heard.{without_marks, apply_mark, apply_marks}
@@ -176,10 +176,10 @@ hops_append (mark.Ended p ∷ a) b = hops_append a b
 
 no_hops : (signals : List Mark) → list_all is_raise signals ≡ true → hops signals ≡ []
 no_hops [] raised = refl
-no_hops (mark.Asked n ∷ signals) raised = differ raised
+no_hops (mark.Asked n ∷ signals) raised = absurd (false≢true raised)
 no_hops (mark.Raised p signal ∷ signals) raised = no_hops signals raised
-no_hops (mark.Hopped hop ∷ signals) raised = differ raised
-no_hops (mark.Ended p ∷ signals) raised = differ raised
+no_hops (mark.Hopped hop ∷ signals) raised = absurd (false≢true raised)
+no_hops (mark.Ended p ∷ signals) raised = absurd (false≢true raised)
 
 told_hops : (k : Core) (acts : List SwitchAct) (trace : List Mark) → TellsActs k acts trace
     → hops trace ≡ hops_of k acts

@@ -1,7 +1,8 @@
 -- The result of a key doesn't depend on what is done with its byte before.
 use Rattle.std.proofs.Common.{◌≡◌, ℕ, zero, suc, Bool, true, false, cond, List, [], ◌∷◌, Option, Some, None, refl, sym, ap, ◌∙◌}
-use Rattle.std.specs.Prelude.{◌==◌, ◌&&◌, ◌||◌, filter, slice_set}
+use Rattle.std.specs.Prelude.{◌==◌, ◌&&◌, ◌||◌, slice_set}
 use Rattle.std.specs.List.{range_with_len}
+use Rattle.std.proofs.lemmas.List.Elements.{filter_agree}
 use Rattle.in_queue.specs.Queue.{Queue}
 use Rattle.key_machine.specs.Keys.{Keys, State}
 use Rattle.key_machine.specs.Step.{Step, key_step}
@@ -29,9 +30,6 @@ pub record IsAlike (v w : WorldState) (n : ℕ) : Type 0 where
   pub accepter : v.callers.accepter ≡ w.callers.accepter
   pub users : (p : ℕ) → uses v n p ≡ uses w n p
 
-filter_alike : (f g : ℕ → Bool) (ns : List ℕ) → ((n : ℕ) → f n ≡ g n) → filter f ns ≡ filter g ns
-filter_alike f g ns same = λ i. filter (λ n. same n i) ns
-
 pub key_out_alike : (v w : WorldState) (n : ℕ) (out : KeyOut) → IsAlike v w n
     → key_out_deeds v n out ≡ key_out_deeds w n out
 key_out_alike v w n (said.Bytes bytes) alike = refl
@@ -42,7 +40,7 @@ key_out_alike v w n said.Prev alike = refl
 key_out_alike v w n said.Spawn alike = ap spawn_deeds alike.accepter
 key_out_alike v w n said.Attention alike =
     ap (λ (ps : List ℕ). ends_of ps (By (SetKd n false) ∷ []))
-    (filter_alike (uses v n) (uses w n) (range_with_len 1 64) alike.users)
+    (filter_agree (uses v n) (uses w n) alike.users (range_with_len 1 64))
 key_out_alike v w n said.Nothing alike = refl
 
 -- a caller without its ticket

@@ -2,6 +2,7 @@
 use Rattle.std.proofs.Common.{◌≡◌, ℕ, zero, suc, Bool, true, false, cond, List, [], ◌∷◌, get_or, set, Some, None, refl, sym, ap, ◌∙◌}
 use Rattle.std.specs.List.{list_any}
 use Rattle.std.specs.Prelude.{◌==◌, ◌&&◌, ◌||◌, not}
+use Rattle.std.proofs.lemmas.Bool.{and_from, false≢true, or_right}
 use Rattle.vt_base.specs.Keyboards.{is_keyboard}
 use Rattle.vt_base.specs.declared.errno.Errno.TheVariants.{Again, Intr, Inval, Notty, Srch}
 use Rattle.vt_events.specs.declared.entry.Entry.{Entry}
@@ -17,7 +18,6 @@ use Rattle.vt_procs.specs.declared.ticket.Ticket.TheVariants.{Active, Input}
 use Rattle.vt_procs.specs.declared.waiting.Waiting.{Waiting}
 use Rattle.vt_procs.specs.declared.waiting.Waiting.TheVariants as waiting
 use Rattle.vt_world.proofs.Steps.{by_step}
-use Rattle.vt_world.proofs.Truths.{both_of, differ}
 use Rattle.vt_world.specs.Deeds.{Deed, Collects, Own}
 use Rattle.vt_world.specs.Heard.{without_marks}
 use Rattle.vt_world.specs.History.{replay}
@@ -59,7 +59,7 @@ refusals_change_nothing w p e =
     (λ (deeds : List Deed) (after : Outcome).
     is_refusal e after.reply ≡ true → after.world ≡ without_marks w)
     w p e (λ errno refused. refl)
-    (λ passed refused. differ (sym (row_accepts (without_marks w) p e) ∙ refused))
+    (λ passed refused. absurd (false≢true (sym (row_accepts (without_marks w) p e) ∙ refused)))
 
 -- the trace of an earlier event makes no difference
 untold : (w : WorldState) (entries : List Entry)
@@ -130,23 +130,18 @@ refusals_can_go w (entry ∷ entries) =
       world = kept_world w entry entries (is_refusal entry.event after.reply) refl same;
     }
 
--- the end of a broken wait: its caller can go on, so the idle rule ends no other wait
-either : (a b : Bool) → b ≡ true → (a || b) ≡ true
-either true b is = refl
-either false b is = is
-
 one_goes : (list : List Process) (p : ℕ) (process : Process)
     → (get_or list p no_caller).live ≡ true → can_go process ≡ true
     → list_any can_go (set list p process) ≡ true
-one_goes [] p process live goes = differ live
+one_goes [] p process live goes = absurd (false≢true live)
 one_goes (first ∷ list) zero process live goes = ap (λ b. b || list_any can_go list) goes
 one_goes (first ∷ list) (suc p) process live goes =
-    either (can_go first) (list_any can_go (set list p process))
+    or_right (can_go first) (list_any can_go (set list p process))
     (one_goes list p process live goes)
 
 goes_if : (goes : Bool) (callers others : Callers) → goes ≡ true → cond goes callers others ≡ callers
 goes_if true callers others is = refl
-goes_if false callers others is = differ is
+goes_if false callers others is = absurd (false≢true is)
 
 goes_on : (callers : Callers) (p : ℕ) → is_live callers p ≡ true
     → (caller_at callers p).waiting ≡ waiting.Broken
@@ -156,8 +151,7 @@ goes_on callers p live is =
     with_waiting (caller_at callers p) (waiting_after_report (caller_at callers p).waiting) in
     goes_if (list_any can_go (after_wait_report p callers).list) (after_wait_report p callers) _
     (one_goes callers.list p told live
-    (both_of (caller_at callers p).live (not (is_open (waiting_after_report (caller_at callers p).waiting))) live
-    (ap (λ (ended : Waiting). not (is_open (waiting_after_report ended))) is)))
+    (and_from (caller_at callers p).live (not (is_open (waiting_after_report (caller_at callers p).waiting))) live (ap (λ (ended : Waiting). not (is_open (waiting_after_report ended))) is)))
 
 abbrev tells_signal : Reply → Bool
 tells_signal (reply.Err Intr) = true
@@ -177,9 +171,9 @@ own_end : (v : WorldState) (p : ℕ) (ended : Waiting) → is_live v.callers p �
     (cond (is_open ended) (Some Again) None))
     (row_of (ended_reply ended) (Own (Collects p) ∷ [])))).world
     ≡ record v { callers = after_wait_report p v.callers }
-own_end v p waiting.Nothing live is told = differ (ap tells_signal told)
-own_end v p (waiting.Open ticket) live is told = differ (ap tells_signal told)
-own_end v p waiting.Done live is told = differ (ap tells_signal told)
+own_end v p waiting.Nothing live is told = absurd (false≢true (ap tells_signal told))
+own_end v p (waiting.Open ticket) live is told = absurd (false≢true (ap tells_signal told))
+own_end v p waiting.Done live is told = absurd (false≢true (ap tells_signal told))
 own_end v p waiting.Broken live is told =
     ap (λ (callers : Callers). record v { callers = callers }) (goes_on v.callers p live is)
 
@@ -195,8 +189,8 @@ any_end : (v : WorldState) (p : ℕ) (live keyboard ticket : Bool) → is_live v
     (cond (not (not keyboard)) (Some Notty)
     (cond (ticket && false) (Some Inval) None))))).world
     ≡ record v { callers = after_wait_report p v.callers }
-any_end v p false keyboard ticket is told = differ (ap tells_signal told)
-any_end v p true true ticket is told = differ (ap tells_signal told)
+any_end v p false keyboard ticket is told = absurd (false≢true (ap tells_signal told))
+any_end v p true true ticket is told = absurd (false≢true (ap tells_signal told))
 any_end v p true false true is told = own_end v p (caller v p).waiting is refl told
 any_end v p true false false is told = own_end v p (caller v p).waiting is refl told
 

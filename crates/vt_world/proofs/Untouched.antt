@@ -3,6 +3,7 @@ use Rattle.std.proofs.Common.{◌≡◌, ◌⊎◌, inl, inr, ℕ, zero, suc, Bo
 use Rattle.std.proofs.lemmas.List.{get_or-set_other}
 use Rattle.std.specs.List.{list_all, range_with_len}
 use Rattle.std.specs.Prelude.{◌==◌, not, option_map}
+use Rattle.std.proofs.lemmas.Bool.{and_from, and_parts, eqb-false, false≢true, not-true, not_from_false}
 use Rattle.vt_events.specs.declared.event.Event.{Event}
 use Rattle.vt_events.specs.declared.event.Event.TheVariants as event
 use Rattle.vt_procs.specs.declared.ticket.Ticket.TheVariants.{Active, Input}
@@ -12,7 +13,6 @@ use Rattle.vt_switch.specs.Moments.{core_after, marks, raise}
 use Rattle.vt_switch.specs.declared.mark.Mark.{Mark}
 use Rattle.vt_world.proofs.Quiet.{are_quiet, is_quiet, is_quiet_own, outs_quiet, scan_quiet, sent_quiet, wait_quiet}
 use Rattle.vt_world.proofs.Steps.{by_step}
-use Rattle.vt_world.proofs.Truths.{both_of, differ, left_of, right_of, unequal}
 use Rattle.vt_world.specs.Deeds.{Deed, By, Asks, Own, OwnDeed, Starts, Clears, Writes, Alters, Raises, after_switch_act, apply_deeds, apply_deed, apply_own_deed, after_request}
 use Rattle.vt_world.specs.Heard.{without_marks, apply_mark, apply_marks}
 use Rattle.vt_world.specs.Events.{row}
@@ -57,16 +57,12 @@ leaves c (Own (Writes n bytes)) = not (n == c)
 leaves c (Own (Alters n m)) = not (n == c)
 leaves c deed = true
 
-not_is : (b : Bool) → not b ≡ true → b ≡ false
-not_is true is = differ is
-not_is false is = refl
-
 elsewhere : (c n : ℕ) (w v : WorldState) (place : Option TerminalState)
     → v.terminals ≡ set w.terminals n place → not (n == c) ≡ true → Stays c w v
 elsewhere c n w v place is other =
     inl
     (ap (λ (terminals : List (Option TerminalState)). terminal_at terminals c) is
-    ∙ get_or-set_other w.terminals n c place None (unequal n c (not_is (n == c) other)))
+    ∙ get_or-set_other w.terminals n c place None (λ e. eqb-false n c (not-true (n == c) other) (sym e)))
 
 gone_or : (c n : ℕ) (terminals : List (Option TerminalState))
     → (get_or (set terminals n None) c None ≡ get_or terminals c None)
@@ -103,15 +99,15 @@ all_leave : (c : ℕ) (w : WorldState) (deeds : List Deed) → list_all (leaves 
 all_leave c w [] other = inl refl
 all_leave c w (deed ∷ deeds) other =
     then c w (apply_deed w deed) (apply_deeds (apply_deed w deed) deeds)
-    (does c w deed (left_of (leaves c deed) (list_all (leaves c) deeds) other))
-    (all_leave c (apply_deed w deed) deeds (right_of (leaves c deed) (list_all (leaves c) deeds) other))
+    (does c w deed ((and_parts (leaves c deed) (list_all (leaves c) deeds) other).0))
+    (all_leave c (apply_deed w deed) deeds ((and_parts (leaves c deed) (list_all (leaves c) deeds) other).1))
 
 -- the deeds of most events leave every console
 quiet_own_leaves : (c : ℕ) (deed : OwnDeed) → is_quiet_own deed ≡ true
     → leaves c (Own deed) ≡ true
-quiet_own_leaves c (Starts n) quiet = differ quiet
-quiet_own_leaves c (Writes n bytes) quiet = differ quiet
-quiet_own_leaves c (Alters n m) quiet = differ quiet
+quiet_own_leaves c (Starts n) quiet = absurd (false≢true quiet)
+quiet_own_leaves c (Writes n bytes) quiet = absurd (false≢true quiet)
+quiet_own_leaves c (Alters n m) quiet = absurd (false≢true quiet)
 quiet_own_leaves c deed quiet = refl
 
 quiet_leaves : (c : ℕ) (deed : Deed) → is_quiet deed ≡ true → leaves c deed ≡ true
@@ -123,9 +119,7 @@ quiet_leave : (c : ℕ) (deeds : List Deed) → are_quiet deeds ≡ true
     → list_all (leaves c) deeds ≡ true
 quiet_leave c [] quiet = refl
 quiet_leave c (deed ∷ deeds) quiet =
-    both_of (leaves c deed) (list_all (leaves c) deeds)
-    (quiet_leaves c deed (left_of (is_quiet deed) (are_quiet deeds) quiet))
-    (quiet_leave c deeds (right_of (is_quiet deed) (are_quiet deeds) quiet))
+    and_from (leaves c deed) (list_all (leaves c) deeds) (quiet_leaves c deed ((and_parts (is_quiet deed) (are_quiet deeds) quiet).0)) (quiet_leave c deeds ((and_parts (is_quiet deed) (are_quiet deeds) quiet).1))
 
 frees_leave : (c : ℕ) (consoles : List ℕ) → list_all (leaves c) (flat_map free_deeds consoles) ≡ true
 frees_leave c [] = refl
@@ -136,24 +130,18 @@ disallocate_leaves : (all : Bool) (c n : ℕ) (consoles : List ℕ)
 disallocate_leaves true c n consoles = frees_leave c consoles
 disallocate_leaves false c n consoles = refl
 
-not_other : (b : Bool) → b ≡ false → not b ≡ true
-not_other true is = differ (sym is)
-not_other false is = refl
-
 row_leaves : (c : ℕ) (w : WorldState) (p : ℕ) (e : Event) → touches w p e c ≡ false
     → list_all (leaves c) (row w p e).deeds ≡ true
 row_leaves c w p (event.Scan b) other =
     quiet_leave c (row w p (event.Scan b)).deeds (scan_quiet w _ w.display.front b)
 row_leaves c w p (event.OpenCon n) other =
-    both_of (not (console_by_number w n == c)) true (not_other (console_by_number w n == c) other) refl
+    and_from (not (console_by_number w n == c)) true (not_from_false (console_by_number w n == c) other) refl
 row_leaves c w p (event.Activate fd n) other =
-    both_of (not (n == c)) true (not_other (n == c) other) refl
+    and_from (not (n == c)) true (not_from_false (n == c) other) refl
 row_leaves c w p (event.Write fd b) other =
     let n : ℕ = target w p fd in
     let said : List Out = said_of (terminal_at w.terminals n) b.bytes in
-    both_of (not (n == c)) (list_all (leaves c) (flat_map (out_deeds n) said))
-    (not_other (n == c) other)
-    (quiet_leave c (flat_map (out_deeds n) said) (outs_quiet n said))
+    and_from (not (n == c)) (list_all (leaves c) (flat_map (out_deeds n) said)) (not_from_false (n == c) other) (quiet_leave c (flat_map (out_deeds n) said) (outs_quiet n said))
 row_leaves c w p (event.WaitInput fd) other =
     quiet_leave c (row w p (event.WaitInput fd)).deeds
     (wait_quiet (not (is_empty w (target w p fd))) p (Input (target w p fd)))
@@ -163,11 +151,11 @@ row_leaves c w p (event.WaitActive fd n) other =
 row_leaves c w p (event.Disallocate fd n) other =
     disallocate_leaves (n == 0) c n (filter (λ k. not (is_in_use w k)) (range_with_len 1 63))
 row_leaves c w p (event.Resize fd rows cols) other =
-    both_of (not (target w p fd == c)) true (not_other (target w p fd == c) other) refl
+    and_from (not (target w p fd == c)) true (not_from_false (target w p fd == c) other) refl
 row_leaves c w p (event.SetMap fd b) other =
-    both_of (not (target w p fd == c)) true (not_other (target w p fd == c) other) refl
+    and_from (not (target w p fd == c)) true (not_from_false (target w p fd == c) other) refl
 row_leaves c w p (event.SetPal fd b) other =
-    both_of (not (target w p fd == c)) true (not_other (target w p fd == c) other) refl
+    and_from (not (target w p fd == c)) true (not_from_false (target w p fd == c) other) refl
 row_leaves c w p (event.Kill q s) other =
     quiet_leave c (row w p (event.Kill q s)).deeds (sent_quiet (s == 9) q s)
 row_leaves c w p e other = refl

@@ -2,7 +2,6 @@
 
 mod acts;
 mod allocating;
-mod altering;
 mod asking;
 pub mod attention;
 mod idle;

@@ -9,7 +9,7 @@ use std::marker::Model;
 use vt_base::{Bytes, CONSOLES, ConsoleNo, NoMemory};
 
 /// The number of places for consoles, by their numbers. Place 0 stays unused.
-const CONSOLE_PLACES: usize = CONSOLES + 1;
+pub(crate) const CONSOLE_PLACES: usize = CONSOLES + 1;
 
 /// The input of each console, by its number.
 #[derive(Drop)]

@@ -1,4 +1,4 @@
-ghost use Rattle.std.specs.Prelude.{◌≡◌, ◌<◌, ◌≤◌, IsTrue, map, replicate, slice_set};
+ghost use Rattle.std.specs.Prelude.{◌≡◌, ◌≤◌, IsTrue, map, replicate, slice_set};
 ghost use Rattle.key_machine.specs.Keys.{start_keys};
 ghost use Rattle.scan_codes.specs.Groups.{is_scan};
 ghost use Rattle.scan_codes.specs.Scan.{event_after, start_scan, with_code};
@@ -9,7 +9,7 @@ ghost use Rattle.vt_base.specs.Keyboards.{keyboard_of};
 use key_machine::Keyboard;
 use key_tables::KeyTables;
 use scan_codes::{KeyEvent, Scanner};
-use vt_base::{CallerNo, KEYBOARDS};
+use vt_base::{CallerNo, KEYBOARDS, KeyboardNo};
 
 /// The keyboards: a scanner for each, the keys that are down, and the key tables.
 #[derive(Drop)]
@@ -40,15 +40,14 @@ impl KeyboardSet {
     }
 
     /// Reads a byte of keyboard `k`. Returns the key event of the group that the byte completes.
-    pub(crate) fn read(&mut self, k: u8, b: u8) -> Option<KeyEvent>
-        requires { k < 4 }
+    pub(crate) fn read(&mut self, k: KeyboardNo, b: u8) -> Option<KeyEvent>
         ensures event { let scanner = scanner_of self.old.scanners k in
             result ≡ event_after scanner.codes scanner.bytes b }
         ensures rest { self.new ≡ record self.old {
           scanners = slice_set self.old.scanners k (read_by (scanner_of self.old.scanners k) b);
         } }
     {
-        self.scanners[usize::from(k)].push(b)
+        self.scanners[usize::from(k.get())].push(b)
     }
 
     /// Gives a scan number another keycode on all keyboards; 0 is none.

@@ -1,8 +1,6 @@
 ghost use Rattle.std.specs.Prelude.{◌≡◌, ◌≤◌, [], true, false, IfOk, length};
 ghost use Rattle.vt_events.specs.Charge.{greatest_reply, text_of_reply};
-ghost use Rattle.vt_procs.specs.Callers.{caller_at, is_live};
-ghost use Rattle.vt_procs.specs.Tickets.{waited_of};
-ghost use Rattle.vt_procs.specs.declared.waited.Waited.{Waited};
+ghost use Rattle.vt_procs.specs.Callers.{is_live};
 ghost use Rattle.vt_world.specs.Spare.{Fits, HasGrid, extent, needed_grid};
 ghost use Rattle.vt_world.specs.Step.{HasOutcome, HasRowResult, row_result_after, outcome_of_result, own_row_result, plain_answer, step, text_of_answer};
 ghost use Rattle.vt_world.specs.Refusals.{common_refusals, ends_wait, error_of, first_refusal, may_make};
@@ -65,8 +63,13 @@ impl World {
         ensures bytes { length (text_of_reply result) ≤ greatest_reply event.now }
     {
         self.trace.clear();
-        let answer = self.take(caller, event, grid, reply);
-        self.finish(caller, answer)
+        match self.may_take(caller, event) {
+            Ok(()) => {
+                let answer = self.carry_out(caller, event, grid, reply);
+                self.finish(caller, answer)
+            }
+            Err(errno) => Reply::Err(errno),
+        }
     }
 
     // Answers a refused event by its error. Applies the idle rule after any other event.
@@ -83,31 +86,10 @@ impl World {
         }
     }
 
-    // The tests of every event come before the event's own.
-    fn take(
-        &mut self,
-        p: CallerNo,
-        event: &Event,
-        grid: &mut Option<Grid>,
-        reply: Bytes,
-    ) -> Result<Reply, Errno>
-        requires clear { self.old.trace.marks ≡ [] }
-        requires grid { HasGrid (needed_grid (extent self.old.rows self.old.cols) event.now) grid.old }
-        requires reply { greatest_reply event.now ≤ reply.room }
-        ensures effect { HasRowResult (row_result_after self.old p event.now
-            (first_refusal (common_refusals self.old p event.now))) self.new result }
-        ensures bytes { length (text_of_answer result) ≤ greatest_reply event.now }
-    {
-        self.may_take(p, event)?;
-        self.carry_out(p, event, grid, reply)
-    }
-
-    // The tests of every event.
+    // The tests of every event. They come before the event's own.
     fn may_take(&self, caller: CallerNo, event: &Event) -> Result<(), Errno>
         ensures first { error_of result ≡ first_refusal (common_refusals self.now caller event.now) }
         ensures live { IfOk result (λ passed. is_live self.now.callers caller ≡ true) }
-        ensures free { IfOk result (λ passed. ends_wait event.now ≡ false
-            → waited_of (caller_at self.now.callers caller).waiting ≡ Waited.None) }
     {
         if !self.procs.live(caller) {
             return Err(Errno::Srch);
@@ -131,8 +113,6 @@ impl World {
     ) -> Result<Reply, Errno>
         requires clear { self.old.trace.marks ≡ [] }
         requires live { is_live self.old.callers p ≡ true }
-        requires free { ends_wait event.now ≡ false
-            → waited_of (caller_at self.old.callers p).waiting ≡ Waited.None }
         requires grid { HasGrid (needed_grid (extent self.old.rows self.old.cols) event.now) grid.old }
         requires reply { greatest_reply event.now ≤ reply.room }
         ensures effect { HasRowResult (own_row_result self.old p event.now) self.new result }

@@ -3,16 +3,14 @@ ghost use Rattle.vt_base.specs.ConsoleSet.{at_each};
 ghost use Rattle.vt_screen.specs.Tape.{palette, resize, user_map};
 ghost use Rattle.vt_world.specs.Terminals.{after_screen_change, new_terminal, said_of, terminal_at, with_start, without_terminal, after_write};
 
+use crate::inputs::CONSOLE_PLACES;
 use crate::terminal::Terminal;
 use std::alloc::Global;
 use std::marker::Model;
-use vt_base::{CONSOLES, ConsoleNo, NoMemory, Size, is_among};
+use vt_base::{ConsoleNo, NoMemory, Size, is_among};
 use vt_cells::Palette;
 use vt_grid::Grid;
 use vt_screen::{BLANK, Outs};
-
-/// The number of places for consoles, by their numbers. Place 0 stays unused.
-const CONSOLE_PLACES: usize = CONSOLES + 1;
 
 /// The terminals of the consoles, by their numbers. Place 0 stays unused.
 #[derive(Drop)]

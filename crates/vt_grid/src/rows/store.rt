@@ -1,5 +1,6 @@
 ghost use Rattle.std.specs.Prelude.{◌≡◌, ◌+◌, ◌-◌, ◌<◌, ◌≤◌, [], ◌∷◌, false, length, true, All, IfOk};
 ghost use Rattle.vt_cells.specs.Width.{is_half};
+ghost use Rattle.vt_grid.specs.Grid.{HasPlace, HasRows};
 ghost use Rattle.vt_grid.specs.Halves.{IsNarrow};
 ghost use Rattle.vt_grid.specs.StoredRow.{IsNarrowLine, cell_at, cells_of, cut_at, with_stored_cells};
 ghost use Rattle.vt_grid.specs.Store.{IsFit, blank_store, stored_row, part_turned, grid_view, rotation_by, with_stored_row};
@@ -92,8 +93,7 @@ impl RowStore {
 
     /// The cell in row `y` and column `x`.
     pub fn at(&self, y: u8, x: u8) -> Cell
-        requires row { y < self.now.rows }
-        requires column { x < self.now.cols }
+        requires { HasPlace (grid_view self.now) y x }
         ensures { result ≡ cell_at (stored_row self.now y) x }
     {
         let number = self.ring.at(y);
@@ -153,8 +153,7 @@ impl RowStore {
     /// Moves the rows `top` to `bottom`, both included, up by `n`, from their top to their bottom. One
     /// step for each of these rows; no other row's number is touched.
     pub fn rotate<L: Ledger>(&mut self, top: u8, bottom: u8, n: u8, steps: &mut Steps<L>)
-        requires order { top ≤ bottom }
-        requires row { bottom < self.old.rows }
+        requires region { HasRows (grid_view self.old) top bottom }
         requires some { n ≤ bottom + 1 - top }
         ensures rows { self.new ≡ record self.old { lines = part_turned top bottom n self.old.lines } }
         ensures steps { steps.new ≡ steps.old + (bottom + 1 - top) }

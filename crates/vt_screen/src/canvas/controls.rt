@@ -1,18 +1,20 @@
 //! The effect of control characters.
 ghost use Rattle.std.specs.Prelude.{◌≡◌};
 ghost use Rattle.vt_screen.specs.Effect.{control};
-ghost use Rattle.vt_screen.specs.Saying.{bell_if};
 
 use super::Canvas;
+use crate::Out;
+use crate::said::Said;
 
 impl Canvas {
-    /// Applies a control character, and returns whether the bell rings.
+    /// Applies a control character. `said` is then its side effect.
     #[tactic(auto, unfolding(crate::specs::Effect::control, crate::specs::Effect::look_up))]
-    pub(crate) fn control(&mut self, code: u8) -> bool
-        ensures { control code self.old ≡ record { screen = self.new; said = bell_if result } }
+    pub(crate) fn control(&mut self, code: u8, said: &mut Said)
+        ensures { control code self.old ≡ record { screen = self.new; said = said.new } }
     {
+        said.clear();
         match code {
-            0x07 => return true,
+            0x07 => said.set(Out::Bell),
             0x08 => self.backspace(),
             0x09 => self.tab(),
             0x0A | 0x0B | 0x0C => self.newline(),
@@ -21,6 +23,5 @@ impl Canvas {
             0x0F => self.invoke(0, false),
             _ => {}
         }
-        false
     }
 }

@@ -1,24 +1,21 @@
 //! The effect of escape sequences.
-ghost use Rattle.std.specs.Prelude.{◌≡◌, ◌<◌, ◌≤◌, ◌+◌, ◌++◌, ◌==◌, length, if◌then◌else◌};
+ghost use Rattle.std.specs.Prelude.{◌≡◌, ◌==◌, None, if◌then◌else◌};
 ghost use Rattle.vt_screen.specs.Effect.{escape, plain_escape};
-ghost use Rattle.vt_screen.specs.Run.{outs_of_option};
 ghost use Rattle.vt_screen.specs.Settings.{alignment_pattern};
 
 use super::Canvas;
-use crate::Outs;
+use crate::said::Said;
 
 impl Canvas {
-    /// Applies an escape sequence. Its side effect, if it has one, is then last in `outs`.
+    /// Applies an escape sequence. `said` is then its side effect.
     #[inline(always)]
     #[tactic(auto, unfolding(crate::specs::Effect::escape))]
-    pub(crate) fn escape(&mut self, mid: u8, last: u8, outs: &mut Outs)
-        requires room { length outs.old < 64 }
-        ensures screen { self.new ≡ (escape mid last self.old).screen }
-        ensures said { outs.new ≡ outs.old ++ outs_of_option (escape mid last self.old).said }
-        ensures few { length outs.new ≤ length outs.old + 1 }
+    pub(crate) fn escape(&mut self, mid: u8, last: u8, said: &mut Said)
+        ensures { escape mid last self.old ≡ record { screen = self.new; said = said.new } }
     {
+        said.clear();
         match mid {
-            0 => self.plain_escape(last, outs),
+            0 => self.plain_escape(last, said),
             b'%' => self.set_coding(last),
             b'#' => self.test(last),
             b'(' => self.designate_g0(last),
@@ -29,11 +26,9 @@ impl Canvas {
 
     #[inline(always)]
     #[tactic(auto, unfolding(crate::specs::Effect::plain_escape, crate::specs::Effect::look_up))]
-    fn plain_escape(&mut self, last: u8, outs: &mut Outs)
-        requires room { length outs.old < 64 }
-        ensures screen { self.new ≡ (plain_escape last self.old).screen }
-        ensures said { outs.new ≡ outs.old ++ outs_of_option (plain_escape last self.old).said }
-        ensures few { length outs.new ≤ length outs.old + 1 }
+    fn plain_escape(&mut self, last: u8, said: &mut Said)
+        requires { said.old ≡ None }
+        ensures { plain_escape last self.old ≡ record { screen = self.new; said = said.new } }
     {
         match last {
             b'c' => self.reset(),
@@ -41,7 +36,7 @@ impl Canvas {
             b'E' => self.next_line(),
             b'H' => self.set_stop(),
             b'M' => self.reverse_linefeed(),
-            b'Z' => self.report_device(0, outs),
+            b'Z' => self.report_device(0, said),
             b'7' => self.save(),
             b'8' => self.restore(),
             b'>' => self.set_keypad(false),

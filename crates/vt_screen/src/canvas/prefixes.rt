@@ -9,9 +9,9 @@ use vt_units::Codes;
 
 /// The number of the first characters that are plain, of one column each: by fours, so the last ones may be
 /// read twice.
+#[tactic(auto, using(crate::proofs::Prefixes::plain_within))]
 pub(super) fn plain_prefix(codes: &[u32]) -> usize
-    ensures count { result ≡ prefix_len is_plain codes.now }
-    ensures within { result ≤ length codes.now }
+    ensures { result ≡ prefix_len is_plain codes.now }
 {
     let mut at = 0;
     while at + 4 <= codes.len() {
@@ -29,8 +29,7 @@ pub(super) fn plain_prefix(codes: &[u32]) -> usize
 // The number of the first characters that are plain, one by one.
 #[inline(never)]
 fn plain_rest(codes: &[u32]) -> usize
-    ensures count { result ≡ prefix_len is_plain codes.now }
-    ensures within { result ≤ length codes.now }
+    ensures { result ≡ prefix_len is_plain codes.now }
 {
     for (i, code) in codes.iter().enumerate() {
         if !is_plain(*code) {

@@ -116,6 +116,7 @@ impl Canvas {
     }
 
     // Prints the plain characters at the start that end in the cursor's row, and returns their number.
+    #[tactic(auto, using(crate::proofs::Prefixes::plain_within))]
     fn print_plain(&mut self, codes: &[u32]) -> usize
         ensures within { result ≤ length codes.now }
         ensures printed { self.new ≡ print_characters (take result codes.now) self.old }

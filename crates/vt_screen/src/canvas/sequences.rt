@@ -1,35 +1,32 @@
 //! The effect of control sequences.
-ghost use Rattle.std.specs.Prelude.{◌≡◌, ◌<◌, ◌≤◌, ◌+◌, ◌++◌, false, length, max};
+ghost use Rattle.std.specs.Prelude.{◌≡◌, ◌<◌, false, max};
 ghost use Rattle.vt_screen.specs.Effect.{control_sequence, effect, number_at, private_sequence};
-ghost use Rattle.vt_screen.specs.Run.{outs_of_option};
 ghost use Rattle.vt_screen.specs.Saying.{without_out};
 ghost use Rattle.vt_units.specs.ShortSequences.{more_numbers, numbers_in};
 ghost use Rattle.vt_units.specs.declared.unit.Unit.TheVariants.{Csi};
 
 use super::Canvas;
-use crate::Outs;
+use crate::said::Said;
 use vt_units::LongSgr;
 
 impl Canvas {
-    /// Applies a control sequence. Its side effect, if it has one, is then last in `outs`.
+    /// Applies a control sequence. `said` is then its side effect.
     pub(crate) fn dispatch_sequence(
         &mut self,
         private: bool,
         params: &[u16],
         last: u8,
-        outs: &mut Outs,
+        said: &mut Said,
     )
-        requires room { length outs.old < 64 }
-        ensures screen { self.new ≡ (effect (Csi private params.now last) self.old).screen }
-        ensures said { outs.new ≡ outs.old ++ outs_of_option (effect (Csi private params.now last) self.old).said }
-        ensures few { length outs.new ≤ length outs.old + 1 }
+        ensures { effect (Csi private params.now last) self.old ≡ record { screen = self.new; said = said.new } }
     {
         if private {
+            said.clear();
             self.private_sequence(params, last);
         } else {
             let first = number_at(params, 0);
             let second = number_at(params, 1);
-            self.control_sequence(first, second, params, last, outs);
+            self.control_sequence(first, second, params, last, said);
         }
     }
 
@@ -41,30 +38,22 @@ impl Canvas {
         second: u16,
         both: bool,
         last: u8,
-        outs: &mut Outs,
+        said: &mut Said,
     )
-        requires room { length outs.old < 64 }
-        ensures screen { self.new ≡ (control_sequence (numbers_in first second both) last self.old).screen }
-        ensures said { outs.new
-            ≡ outs.old ++ outs_of_option (control_sequence (numbers_in first second both) last self.old).said }
-        ensures few { length outs.new ≤ length outs.old + 1 }
+        ensures { control_sequence (numbers_in first second both) last self.old
+            ≡ record { screen = self.new; said = said.new } }
     {
         let params = [first, if both { second } else { 0 }];
         let count = if both { 2 } else { 1 };
-        self.control_sequence(first, params[1], &params[..count], last, outs);
+        self.control_sequence(first, params[1], &params[..count], last, said);
     }
 
     /// Applies SGR of three parameters, or of five.
     #[inline(always)]
     #[tactic(auto, unfolding(crate::specs::Effect::control_sequence, crate::specs::Effect::look_up))]
-    pub(crate) fn dispatch_long_sgr(&mut self, longer: LongSgr, outs: &mut Outs)
-        requires room { length outs.old < 64 }
-        ensures screen { self.new ≡ (control_sequence (more_numbers longer) 0x6D self.old).screen }
-        ensures said { outs.new
-            ≡ outs.old ++ outs_of_option (control_sequence (more_numbers longer) 0x6D self.old).said }
-        ensures few { length outs.new ≤ length outs.old + 1 }
+    pub(crate) fn dispatch_long_sgr(&mut self, longer: LongSgr)
+        ensures { control_sequence (more_numbers longer) 0x6D self.old ≡ without_out self.new }
     {
-        let _ = outs;
         self.render_more(longer);
     }
 
@@ -77,15 +66,13 @@ impl Canvas {
         second: u16,
         params: &[u16],
         last: u8,
-        outs: &mut Outs,
+        said: &mut Said,
     )
         requires first { first ≡ number_at params.now 0 }
         requires second { second ≡ number_at params.now 1 }
-        requires room { length outs.old < 64 }
-        ensures screen { self.new ≡ (control_sequence params.now last self.old).screen }
-        ensures said { outs.new ≡ outs.old ++ outs_of_option (control_sequence params.now last self.old).said }
-        ensures few { length outs.new ≤ length outs.old + 1 }
+        ensures { control_sequence params.now last self.old ≡ record { screen = self.new; said = said.new } }
     {
+        said.clear();
         match last {
             b'@' => self.insert_characters(count_of(first)),
             b'A' => self.move_to(
@@ -108,18 +95,18 @@ impl Canvas {
             b'M' => self.delete_lines(count_of(first)),
             b'P' => self.delete_characters(count_of(first)),
             b'X' => self.erase_characters(count_of(first)),
-            b'c' => self.report_device(first, outs),
+            b'c' => self.report_device(first, said),
             b'd' => self.place(first.saturating_sub(1), self.column()),
             b'g' => self.clear_stops(first),
             b'h' => self.set_modes(true, params),
             b'l' => self.set_modes(false, params),
             b'm' => self.render(params),
-            b'n' => self.report_status(first, outs),
-            b'q' => self.report_lights(first, outs),
+            b'n' => self.report_status(first, said),
+            b'q' => self.report_lights(first, said),
             b'r' => self.set_region(count_of(first), second),
             b's' => self.save(),
             b'u' => self.restore(),
-            b']' => self.say_setting(first, second, outs),
+            b']' => self.set_console(first, second, said),
             _ => {}
         }
     }

@@ -1,35 +1,34 @@
 //! The acts of the switch on a machine: each is carried out, and the trace gets its marks.
 ghost use Rattle.std.specs.Prelude.{◌≡◌, ◌+◌, ◌≤◌, true, length};
 ghost use Rattle.vt_procs.specs.Callers.{is_live};
-ghost use Rattle.vt_switch.specs.Acts.{End, Lock, Release, Request, SetKd, SetMode};
+ghost use Rattle.vt_switch.specs.Acts.{End, Lock, Release, SetKd, SetMode};
 ghost use Rattle.vt_switch.specs.Calls.{handling_of, mode_answer, release_result};
-ghost use Rattle.vt_switch.specs.Moments.{hop_marks};
-ghost use Rattle.vt_world.specs.Deeds.{By, apply_deed};
-ghost use Rattle.vt_world.specs.Heard.{apply_marks};
-ghost use Rattle.vt_world.specs.State.{core};
+ghost use Rattle.vt_world.specs.Deeds.{Asks, By, apply_deed};
 ghost use Rattle.vt_world.specs.Refusals.{is_taken};
 
 use crate::World;
 use crate::trace::MOST_MARKS;
+use crate::wanted::Wanted;
 use vt_base::{CallerNo, ConsoleNo, VtMode};
-use vt_switch::{Asked, Hop, each_target_was_asked_for};
+use vt_switch::{Asked, Mark, each_target_was_asked_for};
 
 impl World {
-    /// Requests the display for the console, if it is allocated.
-    pub(crate) fn request(&mut self, n: ConsoleNo)
+    /// Requests the display for the wanted console, if there is one and it is allocated.
+    pub(crate) fn request(&mut self, wanted: Wanted)
         requires { length self.old.trace.marks + 3 ≤ MOST_MARKS }
-        ensures state { self.new ≡ apply_deed self.old (By (Request n)) }
+        ensures state { self.new ≡ apply_deed self.old (Asks wanted) }
         ensures room { length self.new.trace.marks ≤ length self.old.trace.marks + 3 }
     {
         each_target_was_asked_for();
+        let Some(n) = self.wanted(wanted) else { return };
         let allocated = self.switch.allocated(n);
         let asked = self.switch.request(n);
         if !allocated {
             return;
         }
-        self.hear_asked(n);
+        self.trace.push(&Mark::Asked(n));
         match &asked {
-            Asked::Hopped(hop) => self.hopped(hop),
+            Asked::Hopped(hop) => self.hopped(&Some(*hop)),
             Asked::Signalled { owner, signal } => self.raise(*owner, *signal),
             Asked::Ignored => {}
         }
@@ -44,7 +43,7 @@ impl World {
         each_target_was_asked_for();
         match self.switch.release(c, p, arg) {
             Ok(hop) => {
-                self.hopped_if(&hop);
+                self.hopped(&hop);
                 true
             }
             Err(_) => false,
@@ -86,18 +85,8 @@ impl World {
     {
         each_target_was_asked_for();
         let hop = self.switch.leave(p);
-        self.hear_end(p);
-        self.hopped_if(&hop);
-    }
-
-    // Records the switch of the display, if there was one.
-    fn hopped_if(&mut self, hop: &Option<Hop>)
-        requires { length self.old.trace.marks + 2 ≤ MOST_MARKS }
-        ensures state { self.new ≡ apply_marks self.old (hop_marks (core self.old) hop.now) }
-        ensures room { length self.new.trace.marks ≤ length self.old.trace.marks + 2 }
-    {
-        if let Some(hop) = hop {
-            self.hopped(hop);
-        }
+        self.procs.end(p);
+        self.trace.push(&Mark::Ended(p));
+        self.hopped(&hop);
     }
 }

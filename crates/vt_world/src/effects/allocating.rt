@@ -35,17 +35,14 @@ impl World {
         ensures { self.new ≡ apply_deeds self.old (disallocate_deeds self.old 0) }
     {
         for n in 1..CONSOLES as u16 + 1 {
-            self.free_if_unused(n);
+            self.free_if_unused(ConsoleNo::numbered(n));
         }
     }
 
-    fn free_if_unused(&mut self, n: u16)
-        requires low { 1 ≤ n }
-        requires high { n ≤ 63 }
-        ensures { self.new ≡ (if is_in_use self.old n then self.old
-            else apply_deeds self.old (free_deeds n)) }
+    fn free_if_unused(&mut self, c: ConsoleNo)
+        ensures { self.new ≡ (if is_in_use self.old c then self.old
+            else apply_deeds self.old (free_deeds c)) }
     {
-        let c = ConsoleNo::numbered(n);
         if !self.in_use(c) {
             self.free(c);
         }

@@ -1,29 +1,16 @@
-//! Requests for a console that a key or a text names.
-ghost use Rattle.std.specs.Prelude.{◌≡◌, ◌+◌, ◌≤◌, Some, None, find, length, if◌then◌else◌};
+//! The console that a key or a text requests.
+ghost use Rattle.std.specs.Prelude.{◌≡◌, ◌+◌, ◌≤◌, Some, None, find, if◌then◌else◌};
 ghost use Rattle.std.specs.List.{range_with_len};
 ghost use Rattle.vt_switch.specs.Display.{is_allocated};
-ghost use Rattle.vt_world.specs.Deeds.{Asks, apply_deed};
 ghost use Rattle.vt_world.specs.Wanted.{downwards, numbers_down_from, upwards, wanted_in};
 
 use crate::World;
-use crate::trace::MOST_MARKS;
 use crate::wanted::Wanted;
 use vt_base::ConsoleNo;
 
 impl World {
-    /// Requests the wanted console, if there is one.
-    pub(crate) fn ask(&mut self, wanted: Wanted)
-        requires { length self.old.trace.marks + 3 ≤ MOST_MARKS }
-        ensures state { self.new ≡ apply_deed self.old (Asks wanted) }
-        ensures room { length self.new.trace.marks ≤ length self.old.trace.marks + 3 }
-    {
-        if let Some(c) = self.wanted(wanted) {
-            self.request(c);
-        }
-    }
-
-    // The wanted console, if there is one.
-    fn wanted(&self, wanted: Wanted) -> Option<ConsoleNo>
+    /// The wanted console, if there is one.
+    pub(crate) fn wanted(&self, wanted: Wanted) -> Option<ConsoleNo>
         ensures { result ≡ wanted_in self.now.display wanted }
     {
         match wanted {
@@ -63,7 +50,7 @@ impl World {
         ensures { result ≡ find (is_allocated self.now.display) (range_with_len low len) }
     {
         for k in 0..len {
-            let c = self.allocated_at(low + k);
+            let c = self.if_allocated(ConsoleNo::numbered(low + k));
             if c.is_some() {
                 return c;
             }
@@ -78,7 +65,7 @@ impl World {
         ensures { result ≡ find (is_allocated self.now.display) (numbers_down_from high len) }
     {
         for k in 0..len {
-            let c = self.allocated_at(high - k);
+            let c = self.if_allocated(ConsoleNo::numbered(high - k));
             if c.is_some() {
                 return c;
             }
@@ -86,13 +73,10 @@ impl World {
         None
     }
 
-    // The console with the number, if it is allocated.
-    fn allocated_at(&self, n: u16) -> Option<ConsoleNo>
-        requires low { 1 ≤ n }
-        requires high { n ≤ 63 }
-        ensures { result ≡ (if is_allocated self.now.display n then Some n else None) }
+    // The console, if it is allocated.
+    fn if_allocated(&self, c: ConsoleNo) -> Option<ConsoleNo>
+        ensures { result ≡ (if is_allocated self.now.display c then Some c else None) }
     {
-        let c = ConsoleNo::numbered(n);
         if self.switch.allocated(c) {
             Some(c)
         } else {

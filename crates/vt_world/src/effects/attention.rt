@@ -1,11 +1,10 @@
 //! Signals that are sent, and the attention key.
-ghost use Rattle.std.specs.Prelude.{◌≡◌, ℕ, ◌<◌, ◌≤◌, ◌+◌, [], false, length, slice_index_or, if◌then◌else◌};
-ghost use Rattle.vt_world.specs.Deeds.{By, apply_deeds, apply_deed};
+ghost use Rattle.std.specs.Prelude.{◌≡◌, ℕ, ◌<◌, ◌≤◌, ◌+◌, ◌*◌, [], false, length, slice_index_or, if◌then◌else◌};
 ghost use Rattle.vt_switch.specs.Acts.{End};
-ghost use Rattle.vt_world.specs.Typing.{attention_deeds, signal_deed, spawn_deeds, uses};
+ghost use Rattle.vt_world.specs.Deeds.{By, apply_deeds, apply_deed};
+ghost use Rattle.vt_world.specs.Typing.{attention_deeds, signal_deed, uses};
 
 use crate::World;
-use crate::trace::MOST_MARKS;
 use vt_base::{CallerNo, ConsoleNo, PROCESSES, Signal};
 
 /// SIGKILL, which ends its process (signal(7)).
@@ -17,23 +16,13 @@ const PROCESS_PLACES: usize = PROCESSES + 1;
 impl World {
     /// Sends a signal.
     pub(crate) fn send(&mut self, p: CallerNo, signal: Signal)
-        requires { length self.old.trace.marks + 3 ≤ MOST_MARKS }
-        ensures state { self.new ≡ apply_deed self.old (signal_deed p signal) }
+        requires { self.old.trace.marks ≡ [] }
+        ensures { self.new ≡ apply_deed self.old (signal_deed p signal) }
     {
         if signal.get() == SIGKILL {
             self.end(p);
         } else {
             self.raise(p, signal);
-        }
-    }
-
-    /// Sends the key signal to the process that accepts it.
-    pub(crate) fn send_key_signal(&mut self)
-        requires { length self.old.trace.marks + 3 ≤ MOST_MARKS }
-        ensures { self.new ≡ apply_deeds self.old (spawn_deeds self.old.callers.accepter) }
-    {
-        if let Some((p, signal)) = self.procs.accepter() {
-            self.send(p, signal);
         }
     }
 
@@ -49,12 +38,13 @@ impl World {
         self.show(n, false);
     }
 
-    // Ends the caller with the number, if it uses the console.
+    // Ends the caller with the number, if it uses the console. The callers before it made at most three
+    // marks each.
     fn end_user(&mut self, p: usize, uses: bool)
         requires number { p ≤ 64 }
-        requires room { length self.old.trace.marks + 3 ≤ MOST_MARKS }
+        requires room { length self.old.trace.marks ≤ 3 * p }
         ensures state { self.new ≡ (if uses then apply_deed self.old (By (End p)) else self.old) }
-        ensures room { length self.new.trace.marks ≤ length self.old.trace.marks + 3 }
+        ensures room { length self.new.trace.marks ≤ 3 * (p + 1) }
     {
         let p = CallerNo::numbered(p as u16);
         if uses {

@@ -1,6 +1,6 @@
 //! Bytes that enter the queues of consoles.
 ghost use Rattle.std.specs.Prelude.{◌≡◌};
-ghost use Rattle.vt_world.specs.Deeds.{Lights, Own, Puts, apply_deed};
+ghost use Rattle.vt_world.specs.Deeds.{Own, Puts, apply_deed};
 
 use crate::World;
 use vt_base::ConsoleNo;
@@ -13,12 +13,5 @@ impl World {
         if self.inputs.put(c, piece) {
             self.procs.filled(c);
         }
-    }
-
-    /// Sets the console's lights.
-    pub(crate) fn light(&mut self, c: ConsoleNo, lights: u8)
-        ensures { self.new ≡ apply_deed self.old (Own (Lights c lights)) }
-    {
-        self.inputs.light(c, lights);
     }
 }

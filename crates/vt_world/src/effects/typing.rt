@@ -1,28 +1,19 @@
 //! Scan bytes, and the keys that they complete.
-ghost use Rattle.std.specs.Prelude.{◌≡◌, ◌<◌, []};
+ghost use Rattle.std.specs.Prelude.{◌≡◌, []};
 ghost use Rattle.vt_world.specs.Deeds.{apply_deeds};
 ghost use Rattle.vt_world.specs.Terminals.{key_modes_of, terminal_at};
 ghost use Rattle.vt_world.specs.Typing.{key_on, key_out_deeds, read_deeds, scan_deeds, typed_deeds};
 
 use crate::World;
 use crate::wanted::Wanted;
-use key_machine::{KeyModes, KeyOut, mode};
+use key_machine::{KeyModes, KeyOut, START_MODES, mode};
 use scan_codes::KeyEvent;
-use vt_base::ConsoleNo;
-
-/// The modes of a start screen.
-const START_MODES: KeyModes = KeyModes {
-    cursor: false,
-    keypad: false,
-    repeat: true,
-    newline: false,
-};
+use vt_base::{ConsoleNo, KeyboardNo};
 
 impl World {
     /// Takes a scan byte of keyboard `k`, with console `n` in front.
-    pub(crate) fn scan_on(&mut self, k: u8, n: ConsoleNo, b: u8)
-        requires clear { self.old.trace.marks ≡ [] }
-        requires keyboard { k < 4 }
+    pub(crate) fn scan_on(&mut self, k: KeyboardNo, n: ConsoleNo, b: u8)
+        requires { self.old.trace.marks ≡ [] }
         ensures { self.new ≡ apply_deeds self.old (scan_deeds self.old k n b) }
     {
         if self.inputs.keys(n).mode == mode::RAW {
@@ -33,9 +24,8 @@ impl World {
     }
 
     // Reads the byte, and types the key that it completes.
-    fn read(&mut self, k: u8, n: ConsoleNo, b: u8)
-        requires clear { self.old.trace.marks ≡ [] }
-        requires keyboard { k < 4 }
+    fn read(&mut self, k: KeyboardNo, n: ConsoleNo, b: u8)
+        requires { self.old.trace.marks ≡ [] }
         ensures { self.new ≡ apply_deeds self.old (read_deeds self.old k n b) }
     {
         if let Some(e) = self.board.read(k, b) {
@@ -44,9 +34,8 @@ impl World {
     }
 
     // Presses or releases a key of keyboard `k`, with console `n` in front.
-    fn type_key(&mut self, k: u8, n: ConsoleNo, e: KeyEvent)
-        requires clear { self.old.trace.marks ≡ [] }
-        requires keyboard { k < 4 }
+    fn type_key(&mut self, k: KeyboardNo, n: ConsoleNo, e: KeyEvent)
+        requires { self.old.trace.marks ≡ [] }
         ensures { self.new ≡ apply_deeds self.old (typed_deeds self.old n (key_on self.old k n e)) }
     {
         let mut keys = self.inputs.keys(n);
@@ -54,7 +43,7 @@ impl World {
         let out = self
             .board
             .keyboard
-            .key(k, e, &self.board.tables, &mut keys, modes);
+            .key(k.get(), e, &self.board.tables, &mut keys, modes);
         self.inputs.set_keys(n, keys);
         self.take_key(n, &out);
     }
@@ -82,11 +71,15 @@ impl World {
     {
         match out {
             KeyOut::Bytes(bytes) => self.put(n, bytes.as_slice()),
-            KeyOut::Switch(m) => self.ask(Wanted::Number(u16::from(*m))),
-            KeyOut::Last => self.ask(Wanted::Last),
-            KeyOut::Next => self.ask(Wanted::Above),
-            KeyOut::Prev => self.ask(Wanted::Below),
-            KeyOut::Spawn => self.send_key_signal(),
+            KeyOut::Switch(m) => self.request(Wanted::Number(u16::from(*m))),
+            KeyOut::Last => self.request(Wanted::Last),
+            KeyOut::Next => self.request(Wanted::Above),
+            KeyOut::Prev => self.request(Wanted::Below),
+            KeyOut::Spawn => {
+                if let Some((p, signal)) = self.procs.accepter() {
+                    self.send(p, signal);
+                }
+            }
             KeyOut::Attention => self.secure_attention(n),
             KeyOut::Nothing => {}
         }

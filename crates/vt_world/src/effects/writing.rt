@@ -66,9 +66,9 @@ impl World {
     {
         match out {
             Out::Report(text) => self.put(c, text.as_slice()),
-            Out::SwitchTo(n) => self.ask(Wanted::Number(u16::from(*n))),
-            Out::SwitchLast => self.ask(Wanted::Last),
-            Out::Lights(lights) => self.light(c, *lights),
+            Out::SwitchTo(n) => self.request(Wanted::Number(u16::from(*n))),
+            Out::SwitchLast => self.request(Wanted::Last),
+            Out::Lights(lights) => self.inputs.light(c, *lights),
             Out::Bell => {}
         }
     }

@@ -6,6 +6,7 @@ ghost use Rattle.vt_world.specs.Step.{HasRowResult, own_row_result, text_of_answ
 
 use crate::World;
 use crate::rows::answers::emptied;
+use crate::rows::refusals::check_sense;
 use vt_base::{Bytes, CallerNo, Errno, PIECE_BYTES};
 use vt_events::Reply;
 use vt_grid::Grid;
@@ -42,7 +43,8 @@ impl World {
         ensures { HasRowResult (own_row_result self.old p (event.Write fd b.now)) self.new result }
     {
         let text = b.as_slice();
-        let c = self.console_to_read(p, fd, text.len() <= PIECE_BYTES)?;
+        let c = self.opened(p, fd)?;
+        check_sense(text.len() <= PIECE_BYTES)?;
         self.run(c, text);
         Ok(Reply::Num(text.len() as u32))
     }
@@ -59,7 +61,8 @@ impl World {
         ensures effect { HasRowResult (own_row_result self.old p (event.ReadIn fd most)) self.new result }
         ensures bytes { length (text_of_answer result) ≤ min most 4096 }
     {
-        let c = self.console_to_read(p, fd, 1 <= most && usize::from(most) <= PIECE_BYTES)?;
+        let c = self.opened(p, fd)?;
+        check_sense(1 <= most && usize::from(most) <= PIECE_BYTES)?;
         if self.inputs.queue(c).is_empty() {
             return Err(Errno::Again);
         }

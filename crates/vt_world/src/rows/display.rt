@@ -10,6 +10,8 @@ ghost use Rattle.vt_world.specs.Step.{HasRowResult, own_row_result};
 ghost use Rattle.vt_world.specs.Refusals.{console_by_number};
 
 use crate::World;
+use crate::rows::refusals::check_sense;
+use crate::wanted::Wanted;
 use vt_base::{CONSOLES, CallerNo, ConsoleNo, Errno, VtMode};
 use vt_events::Reply;
 use vt_grid::Grid;
@@ -33,7 +35,7 @@ impl World {
             return Err(Errno::Busy);
         }
         self.allocate(to, grid);
-        self.request(to);
+        self.request(Wanted::Number(n));
         Ok(Reply::Done)
     }
 
@@ -96,7 +98,8 @@ impl World {
     pub(crate) fn set_kd(&mut self, p: CallerNo, fd: u16, m: u16) -> Result<Reply, Errno>
         ensures { HasRowResult (own_row_result self.old p (event.SetKd fd m)) self.new result }
     {
-        let c = self.console_to_set(p, fd, m <= 1)?;
+        let c = self.owned_console(p, fd)?;
+        check_sense(m <= 1)?;
         self.show(c, m == 1);
         Ok(Reply::Done)
     }
@@ -169,19 +172,16 @@ impl World {
         ensures { result ≡ find (λ c. not (is_opened self.now.callers c)) (range_with_len low len) }
     {
         for k in 0..len {
-            if !self.is_opened(low + k) {
+            if !self.is_opened(ConsoleNo::numbered(low + k)) {
                 return Some(low + k);
             }
         }
         None
     }
 
-    fn is_opened(&self, n: u16) -> bool
-        requires low { 1 ≤ n }
-        requires high { n ≤ 63 }
-        ensures { result ≡ is_opened self.now.callers n }
+    fn is_opened(&self, c: ConsoleNo) -> bool
+        ensures { result ≡ is_opened self.now.callers c }
     {
-        let c = ConsoleNo::numbered(n);
         self.procs.opened(c)
     }
 
@@ -190,19 +190,17 @@ impl World {
     {
         let mut mask = 0;
         for k in 0..CONSOLES as u16 {
-            mask += self.allocated_bit(k + 1);
+            mask += self.allocated_bit(ConsoleNo::numbered(k + 1));
         }
         mask
     }
 
     // The bit of a console, 0 if it isn't allocated.
-    fn allocated_bit(&self, n: u16) -> u64
-        requires low { 1 ≤ n }
-        requires high { n ≤ 63 }
-        ensures bit { result ≡ (if is_allocated self.now.display n then 2 ^ n else 0) }
-        ensures bound { result ≤ 2 ^ n }
+    fn allocated_bit(&self, c: ConsoleNo) -> u64
+        ensures bit { result ≡ (if is_allocated self.now.display c then 2 ^ c else 0) }
+        ensures bound { result ≤ 2 ^ c }
     {
-        let c = ConsoleNo::numbered(n);
+        let n = c.get();
         if self.switch.allocated(c) { 1 << n } else { 0 }
     }
 }

@@ -1,19 +1,19 @@
 //! The keyboards: their bytes, the settings of a console's keys, the key tables and the scan numbers.
-ghost use Rattle.std.specs.Prelude.{◌≡◌, ◌<◌, ◌≤◌, [], IsTrue, length, unwrap_or};
+ghost use Rattle.std.specs.Prelude.{◌≡◌, ◌≤◌, [], IsTrue, length, unwrap_or};
 ghost use Rattle.key_tables.specs.Tables.{exists_in};
 ghost use Rattle.vt_base.specs.Keyboards.{keyboard_of};
 ghost use Rattle.vt_events.specs.declared.event.Event.TheVariants as event;
-ghost use Rattle.vt_world.specs.Deeds.{Keyed, Own, apply_deed};
 ghost use Rattle.vt_world.specs.Rows.{lights_of};
 ghost use Rattle.vt_world.specs.Step.{HasRowResult, own_row_result, text_of_answer};
 ghost use Rattle.vt_world.specs.Refusals.{is_flags, is_keycode};
 
 use crate::World;
 use crate::rows::answers::{emptied, text_reply};
+use crate::rows::refusals::check_sense;
 use call_bytes::{add_pairs, read_pairs};
-use key_machine::{KbState, meta, mode};
+use key_machine::{meta, mode};
 use key_syms::Action;
-use vt_base::{Bytes, CallerNo, ConsoleNo, Errno};
+use vt_base::{Bytes, CallerNo, Errno, KeyboardNo};
 use vt_events::Reply;
 
 /// The greatest number that sets lights.
@@ -43,10 +43,11 @@ impl World {
     pub(crate) fn set_keyboard_mode(&mut self, p: CallerNo, fd: u16, m: u16) -> Result<Reply, Errno>
         ensures { HasRowResult (own_row_result self.old p (event.SetKb fd m)) self.new result }
     {
-        let c = self.console_to_set(p, fd, m <= u16::from(mode::OFF))?;
+        let c = self.owned_console(p, fd)?;
+        check_sense(m <= u16::from(mode::OFF))?;
         let mut keys = self.inputs.keys(c);
         keys.mode = m as u8;
-        self.set_keys(c, keys);
+        self.inputs.set_keys(c, keys);
         Ok(Reply::Done)
     }
 
@@ -63,10 +64,11 @@ impl World {
         ensures { HasRowResult (own_row_result self.old p (event.SetMeta fd m)) self.new result }
     {
         let known = m == u16::from(meta::METABIT) || m == u16::from(meta::ESCPREFIX);
-        let c = self.console_to_set(p, fd, known)?;
+        let c = self.owned_console(p, fd)?;
+        check_sense(known)?;
         let mut keys = self.inputs.keys(c);
         keys.meta = m as u8;
-        self.set_keys(c, keys);
+        self.inputs.set_keys(c, keys);
         Ok(Reply::Done)
     }
 
@@ -86,7 +88,7 @@ impl World {
         let c = self.owned_console(p, fd)?;
         let mut keys = self.inputs.keys(c);
         keys.lights = lights_of(v);
-        self.set_keys(c, keys);
+        self.inputs.set_keys(c, keys);
         Ok(Reply::Done)
     }
 
@@ -104,11 +106,12 @@ impl World {
     pub(crate) fn set_flags(&mut self, p: CallerNo, fd: u16, v: u16) -> Result<Reply, Errno>
         ensures { HasRowResult (own_row_result self.old p (event.SetFlags fd v)) self.new result }
     {
-        let c = self.console_to_set(p, fd, is_flags(v))?;
+        let c = self.owned_console(p, fd)?;
+        check_sense(is_flags(v))?;
         let mut keys = self.inputs.keys(c);
         keys.flags = (v % 16) as u8;
         keys.defaults = (v / 16) as u8;
-        self.set_keys(c, keys);
+        self.inputs.set_keys(c, keys);
         Ok(Reply::Done)
     }
 
@@ -120,13 +123,6 @@ impl World {
         let c = self.opened(p, fd)?;
         let keys = self.inputs.keys(c);
         Ok(Reply::Num(u32::from(keys.flags) + 16 * u32::from(keys.defaults)))
-    }
-
-    // Gives the console this key state.
-    fn set_keys(&mut self, c: ConsoleNo, keys: KbState)
-        ensures { self.new ≡ apply_deed self.old (Own (Keyed c keys)) }
-    {
-        self.inputs.set_keys(c, keys);
     }
 
     /// Sets the action of a keycode in a key table (ioctl_console(2), KDSKBENT).
@@ -141,7 +137,8 @@ impl World {
     ) -> Result<Reply, Errno>
         ensures { HasRowResult (own_row_result self.old p (event.SetEntry fd t code kind value)) self.new result }
     {
-        self.console_to_set(p, fd, self.has_table(t) && is_keycode(code))?;
+        self.owned_console(p, fd)?;
+        check_sense(self.has_table(t) && is_keycode(code))?;
         let action = Action::new(kind, value).ok_or(Errno::Inval)?;
         self.board.tables.set_entry(t as u8, code as u8, action);
         Ok(Reply::Done)
@@ -166,7 +163,8 @@ impl World {
     ) -> Result<Reply, Errno>
         ensures { HasRowResult (own_row_result self.old p (event.GetEntry fd t code)) self.new result }
     {
-        self.console_to_read(p, fd, t <= GREATEST_NUMBER && is_keycode(code))?;
+        self.opened(p, fd)?;
+        check_sense(t <= GREATEST_NUMBER && is_keycode(code))?;
         match self.board.tables.entry(t as u8, code as u8) {
             Some(a) => Ok(Reply::Act {
                 kind: a.kind,
@@ -187,7 +185,8 @@ impl World {
         ensures { HasRowResult (own_row_result self.old p (event.SetFunc fd i b.now)) self.new result }
     {
         let text = b.as_slice();
-        self.console_to_set(p, fd, i <= GREATEST_NUMBER && text.len() <= MOST_BYTES)?;
+        self.owned_console(p, fd)?;
+        check_sense(i <= GREATEST_NUMBER && text.len() <= MOST_BYTES)?;
         self.board.tables.set_func(i as u8, text);
         Ok(Reply::Done)
     }
@@ -204,7 +203,8 @@ impl World {
         ensures effect { HasRowResult (own_row_result self.old p (event.GetFunc fd i)) self.new result }
         ensures bytes { length (text_of_answer result) ≤ 255 }
     {
-        self.console_to_read(p, fd, i <= GREATEST_NUMBER)?;
+        self.opened(p, fd)?;
+        check_sense(i <= GREATEST_NUMBER)?;
         Ok(text_reply(self.board.tables.func(i as u8), reply))
     }
 
@@ -261,13 +261,12 @@ impl World {
 }
 
 // The keyboard's number: 0 for a process, whose scan bytes are refused earlier.
-fn number_of(p: CallerNo) -> u8
-    ensures number { result ≡ unwrap_or (keyboard_of p) 0 }
-    ensures high { result < 4 }
+fn number_of(p: CallerNo) -> KeyboardNo
+    ensures { result ≡ unwrap_or (keyboard_of p) 0 }
 {
     match p.keyboard_no() {
-        Some(k) => k,
-        None => 0,
+        Some(k) => KeyboardNo::numbered(k),
+        None => KeyboardNo::numbered(0),
     }
 }
 

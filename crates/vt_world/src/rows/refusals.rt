@@ -1,7 +1,7 @@
 //! The tests that several events share.
 ghost use Rattle.std.specs.Prelude.{◌≡◌, [], ◌∷◌, IfOk, Some, true};
 ghost use Rattle.vt_procs.specs.Callers.{console_of};
-ghost use Rattle.vt_world.specs.Refusals.{error_of, first_refusal, gets, may_handle, needs_open, needs_privilege, needs_right, needs_sense, sets};
+ghost use Rattle.vt_world.specs.Refusals.{error_of, first_refusal, may_handle, needs_open, needs_privilege, needs_right, needs_sense};
 
 use crate::World;
 use vt_base::{CallerNo, ConsoleNo, Errno};
@@ -28,38 +28,6 @@ impl World {
         Ok(c)
     }
 
-    /// The descriptor's console, if `p` has the right to handle it and the request makes sense.
-    pub(crate) fn console_to_set(
-        &self,
-        p: CallerNo,
-        fd: u16,
-        makes_sense: bool,
-    ) -> Result<ConsoleNo, Errno>
-        ensures open { IfOk result (λ c. console_of self.now.callers p fd ≡ Some c) }
-        ensures sense { IfOk result (λ c. makes_sense ≡ true) }
-        ensures refused { error_of result ≡ first_refusal (sets self.now p fd makes_sense) }
-    {
-        let c = self.owned_console(p, fd)?;
-        check_sense(makes_sense)?;
-        Ok(c)
-    }
-
-    /// The descriptor's console, if the request makes sense.
-    pub(crate) fn console_to_read(
-        &self,
-        p: CallerNo,
-        fd: u16,
-        makes_sense: bool,
-    ) -> Result<ConsoleNo, Errno>
-        ensures open { IfOk result (λ c. console_of self.now.callers p fd ≡ Some c) }
-        ensures sense { IfOk result (λ c. makes_sense ≡ true) }
-        ensures refused { error_of result ≡ first_refusal (gets self.now p fd makes_sense) }
-    {
-        let c = self.opened(p, fd)?;
-        check_sense(makes_sense)?;
-        Ok(c)
-    }
-
     /// Refuses a process that may not lock and unlock switching.
     pub(crate) fn check_lock_right(&self, p: CallerNo, fd: u16) -> Result<(), Errno>
         ensures { error_of result
@@ -80,8 +48,8 @@ impl World {
     }
 }
 
-// Refuses a request that makes no sense.
-fn check_sense(makes_sense: bool) -> Result<(), Errno>
+/// Refuses a request that makes no sense.
+pub(crate) fn check_sense(makes_sense: bool) -> Result<(), Errno>
     ensures sense { IfOk result (λ sensible. makes_sense ≡ true) }
     ensures refused { error_of result ≡ first_refusal (needs_sense makes_sense ∷ []) }
 {

@@ -14,6 +14,7 @@ ghost use Rattle.vt_world.specs.Refusals.{caller, console_by_number, sees};
 
 use crate::World;
 use crate::rows::answers::emptied;
+use crate::rows::refusals::check_sense;
 use call_bytes::{add_colours, add_words, read_colours, read_words};
 use vt_base::{Bytes, CallerNo, ConsoleNo, Errno};
 use vt_dump::{codes, vcs, vcsa};
@@ -37,11 +38,12 @@ impl World {
         requires { HasGrid (needed_grid (extent self.old.rows self.old.cols) (event.Resize fd rows cols)) grid.old }
         ensures { HasRowResult (own_row_result self.old p (event.Resize fd rows cols)) self.new result }
     {
-        let c = self.console_to_set(p, fd, is_extent(rows, cols))?;
+        let c = self.owned_console(p, fd)?;
+        check_sense(is_extent(rows, cols))?;
         let Some(fresh) = grid.take() else {
             unreachable!()
         };
-        *grid = Some(self.resize_screen(c, fresh));
+        *grid = Some(self.terminals.resize(c, fresh));
         Ok(Reply::Done)
     }
 
@@ -51,7 +53,7 @@ impl World {
     {
         let c = self.owned_console(p, fd)?;
         let words = read_words(b.as_slice()).ok_or(Errno::Inval)?;
-        self.set_user(c, &words);
+        self.terminals.set_user(c, &words);
         Ok(Reply::Done)
     }
 
@@ -73,7 +75,7 @@ impl World {
     {
         let c = self.owned_console(p, fd)?;
         let colours = read_colours(b.as_slice()).ok_or(Errno::Inval)?;
-        self.set_colours(c, colours);
+        self.terminals.set_palette(c, colours);
         Ok(Reply::Done)
     }
 

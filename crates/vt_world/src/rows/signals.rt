@@ -7,6 +7,7 @@ ghost use Rattle.vt_world.specs.Step.{HasRowResult, own_row_result};
 
 use crate::World;
 use crate::effects::attention::SIGKILL;
+use crate::rows::refusals::check_sense;
 use vt_base::{CallerNo, Errno, PROCESSES, Signal};
 use vt_events::Reply;
 
@@ -16,7 +17,8 @@ impl World {
         requires { is_live self.old.callers p ≡ true }
         ensures { HasRowResult (own_row_result self.old p (event.Accept fd s)) self.new result }
     {
-        self.console_to_set(p, fd, s != SIGKILL)?;
+        self.owned_console(p, fd)?;
+        check_sense(s != SIGKILL)?;
         let signal = Signal::new(s).ok_or(Errno::Inval)?;
         self.procs.accept(p, signal);
         Ok(Reply::Done)
@@ -24,7 +26,6 @@ impl World {
 
     /// Takes the pending signals of `p`. This project's own.
     pub(crate) fn take_signals(&mut self, p: CallerNo) -> Result<Reply, Errno>
-        requires { is_live self.old.callers p ≡ true }
         ensures { HasRowResult (own_row_result self.old p event.TakeSignals) self.new result }
     {
         Ok(Reply::Sigs(self.procs.take_signals(p)))

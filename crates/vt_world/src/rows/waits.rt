@@ -3,9 +3,6 @@ ghost use Rattle.std.specs.Prelude.{◌≡◌, ◌==◌, [], ◌∷◌, not, Som
 ghost use Rattle.vt_base.specs.declared.errno.Errno.TheVariants.{Intr};
 ghost use Rattle.vt_events.specs.declared.event.Event.TheVariants as event;
 ghost use Rattle.vt_events.specs.declared.reply.Reply.TheVariants as reply;
-ghost use Rattle.vt_procs.specs.Callers.{is_live};
-ghost use Rattle.vt_procs.specs.Tickets.{waited_of};
-ghost use Rattle.vt_procs.specs.declared.waited.Waited.{Waited};
 ghost use Rattle.vt_world.specs.Deeds.{Own, Waits};
 ghost use Rattle.vt_world.specs.Rows.{row_of};
 ghost use Rattle.vt_world.specs.Step.{HasRowResult, row_result, own_row_result};
@@ -19,8 +16,6 @@ use vt_procs::{Ticket, Waited};
 impl World {
     /// Begins a wait for input of the descriptor's console. This project's own.
     pub(crate) fn wait_input(&mut self, p: CallerNo, fd: u16) -> Result<Reply, Errno>
-        requires live { is_live self.old.callers p ≡ true }
-        requires free { waited_of (caller self.old p).waiting ≡ Waited.None }
         ensures { HasRowResult (own_row_result self.old p (event.WaitInput fd)) self.new result }
     {
         let c = self.opened(p, fd)?;
@@ -32,8 +27,6 @@ impl World {
 
     /// Begins a wait for console `n` to be in front (ioctl_console(2), VT_WAITACTIVE).
     pub(crate) fn wait_active(&mut self, p: CallerNo, fd: u16, n: u16) -> Result<Reply, Errno>
-        requires live { is_live self.old.callers p ≡ true }
-        requires free { waited_of (caller self.old p).waiting ≡ Waited.None }
         ensures { HasRowResult (own_row_result self.old p (event.WaitActive fd n)) self.new result }
     {
         self.owned_console(p, fd)?;
@@ -46,8 +39,6 @@ impl World {
 
     /// Begins a wait for a signal (pause(2)).
     pub(crate) fn wait_signal(&mut self, p: CallerNo) -> Result<Reply, Errno>
-        requires live { is_live self.old.callers p ≡ true }
-        requires free { waited_of (caller self.old p).waiting ≡ Waited.None }
         ensures { HasRowResult (own_row_result self.old p event.WaitSignal) self.new result }
     {
         self.wait(p, Ticket::AnySignal)
@@ -55,7 +46,6 @@ impl World {
 
     /// How the wait of `p` ended, which `p` then no longer has. This project's own.
     pub(crate) fn wait_end(&mut self, p: CallerNo) -> Result<Reply, Errno>
-        requires { is_live self.old.callers p ≡ true }
         ensures { HasRowResult (own_row_result self.old p event.WaitEnd) self.new result }
     {
         let reply = match self.procs.ticket(p) {
@@ -70,8 +60,6 @@ impl World {
 
     // Begins a wait, unless a signal is pending.
     fn wait(&mut self, p: CallerNo, t: Ticket) -> Result<Reply, Errno>
-        requires live { is_live self.old.callers p ≡ true }
-        requires free { waited_of (caller self.old p).waiting ≡ Waited.None }
         ensures { HasRowResult (row_result self.old
             (if not ((caller self.old p).pending == 0) then Some Intr else None)
             (row_of reply.Wait (Own (Waits p t) ∷ []))) self.new result }

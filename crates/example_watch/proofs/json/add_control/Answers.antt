@@ -7,4 +7,4 @@ unfolding control_text
 returns c =
     in_two _ _ _ _ _
     c.in_ok-add.ensures
-    c.in_ok-add_hex.ensures.ok
+    c.in_ok-add_hex.ensures

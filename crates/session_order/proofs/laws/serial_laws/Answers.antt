@@ -1,5 +1,5 @@
 use Rattle.session_order.proofs.Progress.{rounds-go-on, serial_ends}
-use Rattle.session_order.proofs.Rounds.{finished_stays, rounds_more, serial_one}
+use Rattle.session_order.proofs.Turns.{finished_stays, rounds_more, serial_one}
 use Rattle.session_order.proofs.Turns.{serial_right}
 use Rattle.session_order.proofs.laws.serial_laws.Goals as goal
 

@@ -18,6 +18,6 @@ loop-part-preserved c =
     subst (λ o. IfOk o (λ (part : Text). part.bytes ≡ text_at w (i + 1))) is given in
     consoles_more w (i + 1) c.loop-part.text.bytes c.add.new.text.bytes
     (c.args.text.now.bytes ++ consoles_text w 1 63) (omega (arith, within))
-    (c.in_ok-add-in-Ok.ensures.ok
+    (c.in_ok-add-in-Ok.ensures
     ∙ ap (λ (b : List ℕ). c.loop-part.text.bytes ++ b) (c.as_slice.ensures ∙ part))
     c.loop-part.invariant

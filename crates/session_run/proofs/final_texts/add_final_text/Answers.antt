@@ -9,4 +9,4 @@ returns c =
     final_pieces (line_text (codes "%display" ∷ decimal c.args.world.now.display.front ∷ []))
     (consoles_text c.args.world.now 1 63) c.args.text.now.bytes c.add_display.new.text.bytes
     c.add_consoles.new.text.bytes c.add.new.text.bytes c.in_ok-add_display.ensures
-    c.in_ok-add_consoles.ensures c.in_ok-add.ensures.ok
+    c.in_ok-add_consoles.ensures c.in_ok-add.ensures

@@ -11,7 +11,7 @@ loop-n-preserved c =
 pub returns : goal.returns
 returns c =
     numbers_line (codes "%screen") c.args.numbers.now c.args.text.now.bytes c.add.new.text.bytes
-    c.loop-n.text.bytes c.add-2.new.text.bytes c.in_ok-add.ensures.ok
+    c.loop-n.text.bytes c.add-2.new.text.bytes c.in_ok-add.ensures
     (numbers_all c.args.numbers.now c.loop-n.n-index c.loop-n.text.bytes _ c.loop-n-test.false
     c.loop-n.invariant)
-    c.in_ok-add-2.ensures.ok
+    c.in_ok-add-2.ensures

@@ -1,25 +1,26 @@
-use Rattle.std.proofs.Common.{[], sym, ◌∙◌}
-use Rattle.vt_journal.proofs.Once.{whole_words}
-use Rattle.vt_journal.proofs.Spellings.{none_next, some_next}
-use Rattle.vt_explain.proofs.Items.{item_cut, item_once}
-use Rattle.vt_explain.specs.CertText.{item_words}
+use Rattle.std.proofs.Common.{Some, None, [], sym, subst}
+use Rattle.vt_journal.proofs.OneSpelling.{whole}
+use Rattle.vt_journal.specs.Taking.{Finds}
+use Rattle.vt_journal.specs.Words.{joined_by_blanks}
+use Rattle.vt_explain.proofs.Items.{item_spelling, left_none, left_some}
+use Rattle.vt_explain.specs.CertText.{IsFit, item_words}
 use Rattle.vt_explain.proofs.item_lines.read_item.Goals as goal
 
-pub returns-in_err-item-clause-none : goal.returns-in_err-item-clause-none
-returns-in_err-item-clause-none c =
+pub returns-in_err-item-clause-finds : goal.returns-in_err-item-clause-finds
+returns-in_err-item-clause-finds c =
     rw c.from_residual.ensures
-    (λ w fit is.
-    c.in_err-item.ensures.none w [] fit (c.of-words.ensures ∙ item_cut c.args.line.now w fit is))
+    (whole item_spelling c.args.line.now c.of-words.result [] None c.of-words.ensures c.in_err-item.ensures.takes tt)
 
-pub returns-then-is_some-clause-none : goal.returns-then-is_some-clause-none
-returns-then-is_some-clause-none c = λ w fit is.
-    let once =
-    item_once c.in_ok-item.item w c.take_item.new.words [] c.in_ok-item.ensures.fit fit
-    (sym c.in_ok-item.ensures.found ∙ c.of-words.ensures ∙ item_cut c.args.line.now w fit is) in
-    some_next c.next.result c.take_item.new.words _ c.next.ensures (sym c.if-is_some.ensures) once.1
+pub returns-then-is_some-clause-finds : goal.returns-then-is_some-clause-finds
+returns-then-is_some-clause-finds c =
+    subst (Finds (λ w. joined_by_blanks (item_words w)) IsFit c.args.line.now)
+    (left_some c.next.result c.take_item.new.words _ (Some c.in_ok-item.item) c.next.ensures (sym c.if-is_some.ensures))
+    (whole item_spelling c.args.line.now c.of-words.result c.take_item.new.words (Some c.in_ok-item.item)
+    c.of-words.ensures c.in_ok-item.ensures.takes c.in_ok-item.ensures.fit)
 
-pub returns-clause-found : goal.returns-clause-found
-returns-clause-found c =
-    whole_words c.args.line.now (item_words c.in_ok-item.item) c.take_item.new.words
-    (sym c.of-words.ensures ∙ c.in_ok-item.ensures.found)
-    (none_next c.next.result c.take_item.new.words _ c.next.ensures (sym c.if-is_some.ensures))
+pub returns-clause-finds : goal.returns-clause-finds
+returns-clause-finds c =
+    subst (Finds (λ w. joined_by_blanks (item_words w)) IsFit c.args.line.now)
+    (left_none c.next.result c.take_item.new.words _ (Some c.in_ok-item.item) c.next.ensures (sym c.if-is_some.ensures))
+    (whole item_spelling c.args.line.now c.of-words.result c.take_item.new.words (Some c.in_ok-item.item)
+    c.of-words.ensures c.in_ok-item.ensures.takes c.in_ok-item.ensures.fit)

@@ -1,8 +1,9 @@
 use Rattle.std.proofs.Common.{◌≡◌, ◌+◌, ◌≢◌, ℕ, eqb, List, [], length, sym, ap, subst, ◌∙◌, arith}
 use Rattle.std.proofs.lemmas.Bool.{both_ways, eq-eqb, eqb-true}
 use Rattle.std.proofs.lemmas.List.{nil_from_length}
-use Rattle.vt_explain.proofs.Certs.{IsSoFar, begun, one_more, reads_fault}
-use Rattle.vt_explain.specs.CertText.{Begins, CertSays}
+use Rattle.vt_journal.proofs.OneSpelling.{one_more}
+use Rattle.vt_explain.proofs.Certs.{AreSoFar, begun, reads_fault}
+use Rattle.vt_explain.specs.CertText.{Begins, CertSays, IsFit, item_words}
 use Rattle.vt_explain.specs.CertText.CertSays.{BadLine, OtherCount, Whole}
 use Rattle.vt_explain.specs.Reading.{IsFaultAt}
 use Rattle.vt_explain.specs.declared.hop_why.HopWhy.{HopWhy}
@@ -10,9 +11,9 @@ use Rattle.vt_explain.proofs.parsing.read_items.Goals as goal
 
 pub loop-rest-preserved : goal.loop-rest-preserved
 loop-rest-preserved c =
-    subst (λ (items : List HopWhy). IsSoFar c.args.text.now items c.in-Some.next.behind.now)
+    subst (λ (items : List HopWhy). AreSoFar c.args.text.now items c.in-Some.next.behind.now)
     (sym c.in_ok-push.ensures)
-    (one_more c.args.text.now c.loop-rest.items.items c.loop-rest.rest.now c.in-Some.next.item
+    (one_more item_words IsFit c.args.text.now c.loop-rest.items.items c.loop-rest.rest.now c.in-Some.next.item
     c.in-Some.next.behind.now c.loop-rest.invariant c.in-Some.ensures.fit c.in-Some.ensures.found)
 
 pub returns-in_default : goal.returns-in_default

@@ -10,4 +10,4 @@ returns-clause-ok c =
     c.args.text.now.bytes c.add_number.new.text.bytes c.add_next.new.text.bytes
     c.add_next-2.new.text.bytes c.add_next-3.new.text.bytes c.add_cause.new.text.bytes
     c.add.new.text.bytes (grind arith) (grind arith) (grind arith) (grind arith)
-    c.in_ok-add_cause.ensures.ok c.in_ok-add.ensures.ok
+    c.in_ok-add_cause.ensures.ok c.in_ok-add.ensures

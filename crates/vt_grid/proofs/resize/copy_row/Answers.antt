@@ -22,7 +22,7 @@ returns-then-cols-gt0 c =
     let len : length (take cols row) ≡ cols = length-take-le cols row (omega (arith, wide)) in
     c.put.ensures
     ∙ ap (λ (s : GridView). with_cell s c.args.y last cell) c.copy_row.ensures
-    ∙ with_run-set fresh c.args.y last (take cols row) cell c.stays_full.ensures.full c.requires.row
+    ∙ with_run-set fresh c.args.y last (take cols row) cell c.stays_full.ensures.full c.requires.run.row
     (omega (arith, len, cols_is)) (omega (arith, len))
     ∙ ap (with_run fresh c.args.y 0)
     (ap (λ n. set (take n row) last cell) (sym cols_is)

@@ -2,7 +2,7 @@
 ghost use Rattle.std.specs.List.{list_all};
 ghost use Rattle.std.specs.Prelude.{◌≡◌, ◌+◌, ◌-◌, ◌<◌, ◌≤◌, ◌==◌, length, map, not, replicate, take, true};
 ghost use Rattle.vt_cells.specs.Width.{half};
-ghost use Rattle.vt_grid.specs.Grid.{with_deleted, with_erased, filled_grid, with_inserted, row_at, with_run};
+ghost use Rattle.vt_grid.specs.Grid.{HasPlace, HasRun, with_deleted, with_erased, filled_grid, with_inserted, row_at, with_run};
 ghost use Rattle.vt_grid.specs.Ring.{blank_slot};
 ghost use Rattle.vt_grid.specs.Store.{grid_view};
 
@@ -24,8 +24,7 @@ impl RowStore {
     /// that none of them is the code of a right half.
     #[inline(always)]
     pub(crate) fn put_run<T: Code>(&mut self, y: u8, x: u8, codes: &[T], attr: u8, narrow: bool)
-        requires row { y < self.old.rows }
-        requires columns { x + length codes.now ≤ self.old.cols }
+        requires run { HasRun (grid_view self.old) y x (length codes.now) }
         requires narrow { narrow ≡ true → list_all (λ c. not (T.code_of c == half)) codes.now ≡ true }
         ensures { grid_view self.new
             ≡ with_run (grid_view self.old) y x
@@ -41,9 +40,8 @@ impl RowStore {
 
     /// Makes the cells from column `x0` to `x1`, both included, `c`.
     pub(crate) fn erase(&mut self, y: u8, x0: u8, x1: u8, c: Cell)
-        requires row { y < self.old.rows }
         requires order { x0 ≤ x1 }
-        requires column { x1 < self.old.cols }
+        requires place { HasPlace (grid_view self.old) y x1 }
         ensures { grid_view self.new ≡ with_erased (grid_view self.old) y x0 x1 c }
     {
         let last = self.size().cols - 1;
@@ -56,8 +54,7 @@ impl RowStore {
 
     // Puts the cell `c` into row `y` from column `x` on, `count` times.
     fn fill(&mut self, y: u8, x: u8, count: u8, c: Cell)
-        requires row { y < self.old.rows }
-        requires columns { x + count ≤ self.old.cols }
+        requires { HasRun (grid_view self.old) y x count }
         ensures { grid_view self.new
             ≡ with_run (grid_view self.old) y x (replicate count c) }
     {
@@ -71,8 +68,7 @@ impl RowStore {
 
     // Makes the cells of row `y` from column `x` on `c`.
     fn cut_from(&mut self, y: u8, x: u8, c: Cell)
-        requires row { y < self.old.rows }
-        requires column { x < self.old.cols }
+        requires { HasPlace (grid_view self.old) y x }
         ensures { grid_view self.new ≡ with_erased (grid_view self.old) y x (self.old.cols - 1) c }
     {
         self.stays_fit();
@@ -86,8 +82,7 @@ impl RowStore {
     /// Inserts the cell `c` at column `x` of row `y`, `n` times. The row's rest moves right, and the cells
     /// that pass the end are lost.
     pub(crate) fn insert(&mut self, y: u8, x: u8, n: u16, c: Cell)
-        requires row { y < self.old.rows }
-        requires column { x < self.old.cols }
+        requires { HasPlace (grid_view self.old) y x }
         ensures { grid_view self.new ≡ with_inserted (grid_view self.old) y x n c }
     {
         self.stays_fit();
@@ -102,8 +97,7 @@ impl RowStore {
 
     /// Deletes `n` cells at column `x` of row `y`. The row's rest moves left, and its end is `c`.
     pub(crate) fn delete(&mut self, y: u8, x: u8, n: u16, c: Cell)
-        requires row { y < self.old.rows }
-        requires column { x < self.old.cols }
+        requires { HasPlace (grid_view self.old) y x }
         ensures { grid_view self.new ≡ with_deleted (grid_view self.old) y x n c }
     {
         self.stays_fit();
@@ -119,10 +113,8 @@ impl RowStore {
 
     /// The first `cols` cells of row `y` become those of the old row `from`.
     pub(crate) fn copy_row(&mut self, y: u8, old: &RowStore, from: u8, cols: u8)
-        requires row { y < self.old.rows }
-        requires columns { cols ≤ self.old.cols }
-        requires from { from < old.now.rows }
-        requires old_columns { cols ≤ old.now.cols }
+        requires run { HasRun (grid_view self.old) y 0 cols }
+        requires old_run { HasRun (grid_view old.now) from 0 cols }
         ensures { grid_view self.new
             ≡ with_run (grid_view self.old) y 0 (take cols (row_at (grid_view old.now) from)) }
     {
@@ -137,8 +129,7 @@ impl RowStore {
     // Row `y` becomes the old row `from`, up to its length.
     fn copy_whole(&mut self, y: u8, old: &RowStore, from: u8)
         requires row { y < self.old.rows }
-        requires from { from < old.now.rows }
-        requires columns { self.old.cols ≤ old.now.cols }
+        requires old_run { HasRun (grid_view old.now) from 0 self.old.cols }
         ensures { grid_view self.new
             ≡ with_run (grid_view self.old) y 0
             (take self.old.cols (row_at (grid_view old.now) from)) }
@@ -154,10 +145,8 @@ impl RowStore {
 
     // The first `count` cells of row `y` become those of the old row `from`.
     fn cover_row(&mut self, y: u8, old: &RowStore, from: u8, count: u8)
-        requires row { y < self.old.rows }
-        requires columns { count ≤ self.old.cols }
-        requires from { from < old.now.rows }
-        requires old_columns { count ≤ old.now.cols }
+        requires run { HasRun (grid_view self.old) y 0 count }
+        requires old_run { HasRun (grid_view old.now) from 0 count }
         ensures { grid_view self.new
             ≡ with_run (grid_view self.old) y 0 (take count (row_at (grid_view old.now) from)) }
     {

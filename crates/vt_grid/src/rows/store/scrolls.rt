@@ -1,6 +1,6 @@
 //! The scrolls of a grid, on its stored rows.
 ghost use Rattle.std.specs.Prelude.{◌≡◌, ◌+◌, ◌-◌, ◌<◌, ◌≤◌, ◌==◌, ℕ, drop, if◌then◌else◌, length, slice_index, take};
-ghost use Rattle.vt_grid.specs.Grid.{scrolled_down, scrolled_up};
+ghost use Rattle.vt_grid.specs.Grid.{HasRows, scrolled_down, scrolled_up};
 ghost use Rattle.vt_grid.specs.StoredRow.{blank_row};
 ghost use Rattle.vt_grid.specs.Ring.{cut_all};
 ghost use Rattle.vt_grid.specs.Store.{with_run_of, part_turned, scroll_steps, grid_view};
@@ -25,8 +25,7 @@ impl RowStore {
         c: Cell,
         steps: &mut Steps<L>,
     )
-        requires order { top ≤ bottom }
-        requires row { bottom < self.old.rows }
+        requires { HasRows (grid_view self.old) top bottom }
         ensures grid { grid_view self.new ≡ scrolled_up (grid_view self.old) top bottom n c }
         ensures steps { steps.new ≤ steps.old + scroll_steps self.old.rows top bottom n }
     {
@@ -38,8 +37,7 @@ impl RowStore {
 
     /// Scrolls down, as [`RowStore::scroll_up`] scrolls up.
     pub(crate) fn scroll_down(&mut self, top: u8, bottom: u8, n: u16, c: Cell)
-        requires order { top ≤ bottom }
-        requires row { bottom < self.old.rows }
+        requires { HasRows (grid_view self.old) top bottom }
         ensures { grid_view self.new ≡ scrolled_down (grid_view self.old) top bottom n c }
     {
         self.stays_fit();
@@ -70,8 +68,7 @@ impl RowStore {
         c: Cell,
         steps: &mut Steps<L>,
     )
-        requires order { top ≤ bottom }
-        requires row { bottom < self.old.rows }
+        requires region { HasRows (grid_view self.old) top bottom }
         requires some { n ≤ bottom + 1 - top }
         requires part { from + count ≤ self.old.rows }
         ensures rows { self.new
@@ -103,8 +100,7 @@ impl RowStore {
         c: Cell,
         steps: &mut Steps<L>,
     )
-        requires order { top ≤ bottom }
-        requires row { bottom < self.old.rows }
+        requires region { HasRows (grid_view self.old) top bottom }
         requires some { n ≤ bottom + 1 - top }
         requires part { from + count ≤ self.old.rows }
         ensures rows { self.new
@@ -121,8 +117,7 @@ impl RowStore {
 
     // Moves the rows `top` to `bottom` up by `n` around their end. Nothing moves if `n` is their number.
     fn move_up<L: Ledger>(&mut self, top: u8, bottom: u8, n: u8, steps: &mut Steps<L>)
-        requires order { top ≤ bottom }
-        requires row { bottom < self.old.rows }
+        requires region { HasRows (grid_view self.old) top bottom }
         requires some { n ≤ bottom + 1 - top }
         ensures rows { self.new ≡ record self.old { lines = part_turned top bottom n self.old.lines } }
         ensures steps { steps.new
@@ -174,8 +169,7 @@ fn scroll_alone<L: Ledger>(
     requires name { blank.name ≡ L.name }
     requires parts { blank.parts ≡ L.parts }
     requires several { 0 < blank.parts }
-    requires order { top ≤ bottom }
-    requires row { bottom < store.old.rows }
+    requires region { HasRows (grid_view store.old) top bottom }
     requires some { n ≤ bottom + 1 - top }
     requires part { from + count ≤ store.old.rows }
     ensures { store.new

@@ -1,13 +1,13 @@
+use Rattle.std.proofs.Common.{rules}
+use Rattle.vt_journal.specs.Text.{Begins}
 use Rattle.vt_journal.proofs.Texts.{begins_after, begins_more, begins_same}
 use Rattle.vt_journal.proofs.adding.add_bytes.Goals as goal
 
-pub returns-in_err-add-clause-kept : goal.returns-in_err-add-clause-kept
-returns-in_err-add-clause-kept c = begins_same _ _ c.in_err-add.ensures.err
+pub returns-in_err-add-clause-adds : goal.returns-in_err-add-clause-adds
+returns-in_err-add-clause-adds c = search (rules, begins_same _ _ c.in_err-add.ensures)
 
-pub returns-in_err-add_hex-clause-kept : goal.returns-in_err-add_hex-clause-kept
-returns-in_err-add_hex-clause-kept c =
-    begins_after _ _ _ (begins_more _ _ _ c.in_ok-add.ensures.ok) (begins_same _ _ c.in_err-add_hex.ensures.err)
-
-pub returns-clause-kept : goal.returns-clause-kept
-returns-clause-kept c =
-    begins_after _ _ _ (begins_more _ _ _ c.in_ok-add.ensures.ok) (begins_more _ _ _ c.in_ok-add_hex.ensures.ok)
+pub returns-in_err-add_hex-clause-adds : goal.returns-in_err-add_hex-clause-adds
+returns-in_err-add_hex-clause-adds c =
+    let begins : Begins c.args.text.now.bytes c.add_hex.new.text.bytes =
+    begins_after _ _ _ (begins_more _ _ _ c.in_ok-add.ensures) (begins_same _ _ c.in_err-add_hex.ensures) in
+    search (rules, begins)

@@ -1,14 +1,14 @@
-use Rattle.vt_journal.specs.Journal.{entry_words, tail_words}
-use Rattle.vt_journal.proofs.Once.{cut_is, line_entry, line_tail}
+use Rattle.vt_journal.proofs.Once.{entry_spelling, tail_spelling}
+use Rattle.vt_journal.proofs.OneSpelling.{cut_is}
 use Rattle.vt_journal.proofs.parsing.read_line.Goals as goal
 
 pub returns-in-None : goal.returns-in-None
 returns-in-None c = (
   λ entry rest fit is.
-      let none = rw c.in_default-2.is at c.in_ok-entry.ensures.none in
+      let none = rw c.in_default-2.is at c.in_ok-entry.ensures.finds in
       none entry fit
-      (cut_is c.args.text.now _ _ (entry_words c.args.version entry) rest c.in-Some.ensures.found (line_entry c.args.version entry fit) is),
+      (cut_is (entry_spelling c.args.version) c.args.text.now _ _ entry rest c.in-Some.ensures.found fit is),
   λ end rest fit is.
-      c.in-None.ensures.none end fit
-      (cut_is c.args.text.now _ _ (tail_words end) rest c.in-Some.ensures.found (line_tail end fit) is),
+      c.in-None.ensures.finds end fit
+      (cut_is tail_spelling c.args.text.now _ _ end rest c.in-Some.ensures.found fit is),
 )

@@ -2,10 +2,11 @@ use Rattle.std.proofs.Common.{◌≡◌, ◌+◌, ◌≤◌, ◌++◌, ⊎_elim,
 use Rattle.std.proofs.lemmas.Bool.{both_ways, eq-eqb, eqb-true}
 use Rattle.std.proofs.lemmas.List.{length_push, nil_from_length}
 use Rattle.vt_events.specs.declared.entry.Entry.{Entry}
-use Rattle.vt_journal.specs.Journal.{line_text, tail_words}
-use Rattle.vt_journal.specs.Says.{JournalSays, fault, most_entries}
+use Rattle.vt_journal.specs.Journal.{entry_words, line_text, tail_words}
+use Rattle.vt_journal.specs.Says.{IsFitEntry, JournalSays, fault, most_entries}
 use Rattle.vt_journal.specs.Says.JournalSays.{BadLine, NoLast, TooMany}
-use Rattle.vt_journal.proofs.Saying.{IsSoFar, begun, more_is, nothing_or_some, one_more, whole_is}
+use Rattle.vt_journal.proofs.OneSpelling.{one_more}
+use Rattle.vt_journal.proofs.Saying.{AreSoFar, begun, more_is, nothing_or_some, whole_is}
 use Rattle.vt_journal.proofs.parsing.read_lines.Goals as goal
 
 pub returns-then-is_empty : goal.returns-then-is_empty
@@ -20,7 +21,7 @@ returns-then-is_empty c =
     subst (λ n. JournalSays whole (fault 42 (n + 1))) c.loop-read.invariant.many
     (NoLast c.args.version c.loop-read.entries.items
     (begun c.args.version whole c.args.text.now c.loop-read.entries.items [] c.requires is
-    (subst (IsSoFar c.args.version c.args.text.now c.loop-read.entries.items) empty c.loop-read.invariant.so_far))
+    (subst (AreSoFar c.args.version c.args.text.now c.loop-read.entries.items) empty c.loop-read.invariant.so_far))
     few))
 
 pub returns-in-Tail : goal.returns-in-Tail
@@ -63,9 +64,9 @@ loop-read-preserved c =
     let next = rw c.in-Entry.is at c.in_ok-entry.ensures in
     record {
       so_far =
-          subst (λ (entries : List Entry). IsSoFar c.args.version c.args.text.now entries c.in-Entry.behind.now)
+          subst (λ (entries : List Entry). AreSoFar c.args.version c.args.text.now entries c.in-Entry.behind.now)
           (sym c.in_ok-push-in-Entry.ensures.items)
-          (one_more c.args.version c.args.text.now c.loop-read.entries.items c.loop-read.rest.now c.in-Entry.entry
+          (one_more (entry_words c.args.version) (IsFitEntry c.args.version) c.args.text.now c.loop-read.entries.items c.loop-read.rest.now c.in-Entry.entry
           c.in-Entry.behind.now c.loop-read.invariant.so_far next.0 next.1);
       many =
           ap length c.in_ok-push-in-Entry.ensures.items

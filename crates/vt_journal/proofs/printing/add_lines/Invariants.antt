@@ -3,7 +3,6 @@ use Rattle.std.specs.List.{All, flat_map}
 use Rattle.vt_events.specs.Plain.{plain_entry}
 use Rattle.vt_journal.specs.Journal.{entry_words, first_words, line_text}
 use Rattle.vt_journal.specs.Says.{IsFitEntry}
-use Rattle.vt_journal.specs.Text.{Begins}
 use Rattle.vt_journal.proofs.printing.add_lines.Given as goal
 
 abbrev pub invariant-loop-entry : goal.invariant-loop-entry
@@ -12,6 +11,5 @@ invariant-loop-entry l = record {
       ≡ l.fn.rest.bytes
       ++ flat_map line_text
       (first_words l.version ∷ map (entry_words l.version) (take l.entry-index l.entries));
-  begins : Begins l.fn.rest.bytes l.rest.bytes;
-  fit : All (IsFitEntry l.version) (map plain_entry (take l.entry-index l.entries));
+  fit : All (λ e. IsFitEntry l.version (plain_entry e)) (take l.entry-index l.entries);
 }

@@ -1,5 +1,5 @@
 use Rattle.vt_cells.specs.Width.{columns}
-use Rattle.vt_screen.proofs.Cutting.{print_mode}
+use Rattle.vt_screen.proofs.Printed.{print_mode}
 use Rattle.vt_screen.specs.Run.{screen_effects, with_outs}
 use Rattle.std.proofs.Common.{[]}
 use Rattle.vt_units.proofs.Cutting.{text_cut}

@@ -1,6 +1,6 @@
-use Rattle.std.proofs.Common.{◌==◌, ◌+◌, ◌≤◌, ◌<◌, ◌∙◌, ℕ, true, false, List, length, get_or, arith}
-use Rattle.std.proofs.lemmas.Bool.{eq-eqb}
-use Rattle.vt_units.proofs.ShortForms.{and_none, and_second, five_exact, not_eqb, number_last, number_parts}
+use Rattle.std.proofs.Common.{◌==◌, ◌+◌, ◌≤◌, ◌<◌, ◌∙◌, ℕ, List, length, get_or, arith}
+use Rattle.std.proofs.lemmas.Bool.{and_left, eq-eqb, ne_eqb}
+use Rattle.vt_units.proofs.ShortForms.{and_second, five_exact, number_last, number_parts}
 use Rattle.vt_units.specs.ShortForms.{ends_sgr}
 use Rattle.vt_units.proofs.ShortSequences.{five_are}
 use Rattle.vt_units.proofs.long_sgr_ahead.five_numbers.Goals as goal
@@ -18,7 +18,7 @@ pub returns-then-b-end-ne59-clause-exact : goal.returns-then-b-end-ne59-clause-e
 returns-then-b-end-ne59-clause-exact c =
     five_exact c.args.b.now c.args.third c.args.end c.requires.within c.requires.colour c.requires.way
     c.requires.third c.requires.few c.requires.stops
-    ∙ and_none (get_or c.args.b.now c.args.end 0 == 0x3B) _ (not_eqb (get_or c.args.b.now c.args.end 0) 0x3B c.if-b-end-ne59.true)
+    ∙ and_left (get_or c.args.b.now c.args.end 0 == 0x3B) _ (ne_eqb (get_or c.args.b.now c.args.end 0) 0x3B c.if-b-end-ne59.true)
 
 pub returns-then-b-next-ne59-clause-exact : goal.returns-then-b-next-ne59-clause-exact
 returns-then-b-next-ne59-clause-exact c =
@@ -31,7 +31,7 @@ returns-then-b-next-ne59-clause-exact c =
     ∙ and_second (get_or text c.args.end 0 == 0x3B) _ (eq-eqb (get_or text c.args.end 0) 0x3B c.if-b-end-ne59.false)
     ∙ number_parts ends_sgr text c.number_at-fourth.result.0 (c.args.end + 1) next c.number_at-fourth.ensures.goes high within
     c.number_at-fourth.ensures.stops
-    ∙ and_none (get_or text next 0 == 0x3B) _ (not_eqb (get_or text next 0) 0x3B c.if-b-next-ne59.true)
+    ∙ and_left (get_or text next 0 == 0x3B) _ (ne_eqb (get_or text next 0) 0x3B c.if-b-next-ne59.true)
 
 pub returns-then-b-last-ne109-clause-exact : goal.returns-then-b-last-ne109-clause-exact
 returns-then-b-last-ne109-clause-exact c =
@@ -50,7 +50,7 @@ returns-then-b-last-ne109-clause-exact c =
     ∙ and_second (get_or text next 0 == 0x3B) _ (eq-eqb (get_or text next 0) 0x3B c.if-b-next-ne59.false)
     ∙ number_last text c.number_at-fifth.result.0 (next + 1) last c.number_at-fifth.ensures.goes most inside
     c.number_at-fifth.ensures.stops
-    ∙ not_eqb (get_or text last 0) 0x6D c.if-b-last-ne109.true
+    ∙ ne_eqb (get_or text last 0) 0x6D c.if-b-last-ne109.true
 
 pub returns-clause-exact : goal.returns-clause-exact
 returns-clause-exact c =

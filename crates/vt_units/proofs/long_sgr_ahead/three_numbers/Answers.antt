@@ -1,6 +1,6 @@
 use Rattle.std.proofs.Common.{◌∙◌, get_or, arith}
-use Rattle.std.proofs.lemmas.Bool.{eq-eqb}
-use Rattle.vt_units.proofs.ShortForms.{not_eqb, three_exact}
+use Rattle.std.proofs.lemmas.Bool.{eq-eqb, ne_eqb}
+use Rattle.vt_units.proofs.ShortForms.{three_exact}
 use Rattle.vt_units.proofs.ShortSequences.{three_are}
 use Rattle.vt_units.proofs.long_sgr_ahead.three_numbers.Goals as goal
 
@@ -15,7 +15,7 @@ pub returns-then-b-end-ne109-clause-exact : goal.returns-then-b-end-ne109-clause
 returns-then-b-end-ne109-clause-exact c =
     three_exact c.args.b.now c.args.third c.args.end c.requires.within c.requires.colour c.requires.way
     c.requires.third c.requires.few c.requires.stops
-    ∙ not_eqb (get_or c.args.b.now c.args.end 0) 0x6D c.if-b-end-ne109.true
+    ∙ ne_eqb (get_or c.args.b.now c.args.end 0) 0x6D c.if-b-end-ne109.true
 
 pub returns-clause-exact : goal.returns-clause-exact
 returns-clause-exact c =

@@ -9,7 +9,7 @@ use Rattle.vt_units.proofs.numbers.read_numbers.Goals as goal
 pub loop-at-init : goal.loop-at-init
 loop-at-init c = record {
   params =
-      ap (λ (kept : List ℕ). take 16 (kept ++ numbers_after 0 (longest_prefix is_parameter c.args.text.now))) c.requires.none
+      ap (λ (kept : List ℕ). take 16 (kept ++ numbers_after 0 (longest_prefix is_parameter c.args.text.now))) c.clear.ensures
       ∙ numbers_after_all (longest_prefix is_parameter c.args.text.now);
   count = omega arith;
   rest = refl;

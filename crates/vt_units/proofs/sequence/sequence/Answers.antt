@@ -18,8 +18,20 @@ returns-then-text-eq-SEQUENCE_BYTES c =
     sequence_full c.args.stage c.args.mode c.args.text.now c.requires.sequence c.requires.stands
     c.requires.bound c.args.b (sym c.acts.ensures ∙ c.if-acts.false) (ne_eqb _ _ c.if-b-eq127.false) (omega arith)
 
-pub returns-else-text-eq-SEQUENCE_BYTES : goal.returns-else-text-eq-SEQUENCE_BYTES
-returns-else-text-eq-SEQUENCE_BYTES c =
+pub returns-in-Escape : goal.returns-in-Escape
+returns-in-Escape c =
     sequence-outcome_of_text c.args.stage c.args.mode c.args.text.now c.requires.sequence c.requires.stands
     c.requires.bound c.args.b (sym c.acts.ensures ∙ c.if-acts.false) (ne_eqb _ _ c.if-b-eq127.false)
-    c.admit.result.0 c.admit.result.1 c.admit.ensures
+    c.escape.result.0 c.escape.result.1 c.escape.ensures
+
+pub returns-in-Control : goal.returns-in-Control
+returns-in-Control c =
+    sequence-outcome_of_text c.args.stage c.args.mode c.args.text.now c.requires.sequence c.requires.stands
+    c.requires.bound c.args.b (sym c.acts.ensures ∙ c.if-acts.false) (ne_eqb _ _ c.if-b-eq127.false)
+    c.control.result.0 c.control.result.1 c.control.ensures
+
+pub returns-in_default : goal.returns-in_default
+returns-in_default c =
+    sequence-outcome_of_text c.args.stage c.args.mode c.args.text.now c.requires.sequence c.requires.stands
+    c.requires.bound c.args.b (sym c.acts.ensures ∙ c.if-acts.false) (ne_eqb _ _ c.if-b-eq127.false)
+    c.bracket.result.0 c.bracket.result.1 c.bracket.ensures

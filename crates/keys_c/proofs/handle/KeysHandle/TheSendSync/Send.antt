@@ -11,7 +11,7 @@ use Rattle.keys_c.proofs.keymap_keyboard.KeymapKeyboard.TheSendSync.{the_send}
 use Rattle.keys_c.specs.KeyboardView.{KeyboardView}
 use Rattle.keys_c.specs.contracts.handle.KeysHandle.{the_row, the_type}
 use Rattle.keys_c.specs.contracts.keymap_keyboard.KeymapKeyboard as owned
-use Rattle.raw_box.specs.Held.{held}
+use Rattle.raw_box.specs.Contents.{contents}
 use Rattle.std.proofs.Crossing.{frees}
 use Rattle.std.specs.Prelude.{Option, Some, None}
 use Rattle.std.specs.contracts.alloc.Global as heap
@@ -21,12 +21,12 @@ use Rattle.std_alloc.proofs.SendSync.{quiet, lies}
 parts : IsSend RawPtr × (IsSend (heap.the_field).row × Unit {0})
 parts = (search sendable, (search sendable depth 20, tt))
 
-held_keyless : (alloc : Global) (at : Ptr) (value : Option KeyboardView) → Keyless (held owned.the_row alloc at value)
-held_keyless alloc at None = tt
-held_keyless alloc at (Some x) =
+contents_keyless : (alloc : Global) (at : Ptr) (value : Option KeyboardView) → Keyless (contents owned.the_row alloc at value)
+contents_keyless alloc at None = tt
+contents_keyless alloc at (Some x) =
     (lies owned.the_row the_send at x, frees.frees alloc (raw (lone (owned.the_row).mir)) at)
 
 pub send : IsSend the_row
 send =
-    owning_send the_type parts (λ h. held_keyless h.alloc h.at h.value)
+    owning_send the_type parts (λ h. contents_keyless h.alloc h.at h.value)
     (λ k. quiet (to the_type) (exits_of k (fields the_type)) ((struct_send (shape the_type) parts).leaving k))

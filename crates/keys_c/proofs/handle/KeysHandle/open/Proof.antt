@@ -1,4 +1,4 @@
--- The pointer is null, and nothing is held, or it is a block's, with what a box of it owns.
+-- The pointer is null, and it has no contents, or it is a block's, with what a box of it owns.
 use Rattle.std.proofs.Common.{◌≡◌, List, [], ◌∷◌, ◌++◌, refl, sym, ap, subst, lit<}
 use base.Logic.{SProp, ent, emp, id⊢}
 use base.Fml.{ftrue}
@@ -23,7 +23,7 @@ use Rattle.core.proofs.alloc.Shapes.{after}
 use Rattle.core.proofs.atomic.Steps.{Ptr-Good}
 use Rattle.core.proofs.cell.Inside.{Good}
 use Rattle.core.proofs.option.Made.{Some-of, none_of}
-use Rattle.raw_box.proofs.Held.{by_null}
+use Rattle.raw_box.proofs.Contents.{by_null}
 use Rattle.raw_box.proofs.Parts as raw_box
 use Rattle.raw_box.proofs.Parts.{pair}
 use Rattle.keys_c.proofs.HandleParts.{Owned, Heap, Handle, is_typed, apart}
@@ -60,7 +60,7 @@ open_spec 𝓤 𝓛 𝓜 𝓡 wired =
     (subst (λ (us : List Val). ent 𝓤 (Run (w ∷ [])) (Run us)) (sym (λ i. spelled i ++ [])) (id⊢ 𝓤 (Run (w ∷ [])))) $
     enter ! machine.C machine.Λ fn (w ∷ []) Post $ alloc_all ! (λ l. pass_all ! refl (is_typed d.at h good, tt) $
     let E = env fn.locals l in
-    -- [what is held; its allocator; nothing; nothing; the requires]
+    -- [the contents; its allocator; nothing; nothing; the requires]
     by_null Owned ! d.alloc d.at d.value
     (λ place empty.
     let nothing_typed : Good (layout Out) (live 0 vnil) = (tt, (record { fits = lit< tt }, tt)) in

@@ -7,7 +7,7 @@ use denote.RawPtr.{Ptr}
 use denote.Struct.Owning.{shape, to, fields}
 use denote.Struct.Struct.{exits_of}
 use mir.Raw.{raw}
-use Rattle.raw_box.specs.Held.{held}
+use Rattle.raw_box.specs.Contents.{contents}
 use Rattle.screen_c.proofs.owned_screen.OwnedScreen.TheSendSync.{the_send as owned_send}
 use Rattle.screen_c.specs.contracts.handle.ScreenHandle.{the_row, the_type}
 use Rattle.screen_c.specs.contracts.owned_screen.OwnedScreen as owned
@@ -20,12 +20,12 @@ use Rattle.std_alloc.proofs.SendSync.{quiet, lies}
 fields_send : IsSend RawPtr × (IsSend (heap.the_field).row × Unit {0})
 fields_send = (search sendable, (search sendable depth 20, tt))
 
-held_keyless : (alloc : Global) (p : Ptr) (x : Option (owned.the_row).Denot) → Keyless (held owned.the_row alloc p x)
-held_keyless alloc p None = tt
-held_keyless alloc p (Some y) =
+contents_keyless : (alloc : Global) (p : Ptr) (x : Option (owned.the_row).Denot) → Keyless (contents owned.the_row alloc p x)
+contents_keyless alloc p None = tt
+contents_keyless alloc p (Some y) =
     (lies owned.the_row owned_send p y, frees.frees alloc (raw (lone (owned.the_row).mir)) p)
 
 pub send : IsSend the_row
 send =
-    owning_send the_type fields_send (λ h. held_keyless h.alloc h.at h.value)
+    owning_send the_type fields_send (λ h. contents_keyless h.alloc h.at h.value)
     (λ k. quiet (to the_type) (exits_of k (fields the_type)) ((struct_send (shape the_type) fields_send).leaving k))

@@ -16,8 +16,7 @@ returns c =
     let len = ap length c.as_slice-events.ensures in
     let at : get_or events w.item e ≡ e =
     (λ i. get_or (sym c.as_slice-events.ensures i) (sym item i) e) ∙ sym c.index-events-self.is in
-    item_moves table c.args.items.now w _ c.args.r.now e c.requires.over c.requires.waiting
-    c.requires.taking none
+    item_moves table c.args.items.now w _ c.args.r.now e c.requires none
     (drop_more events w.item e (omega (arith, item, len))
     ∙ ap (λ x. x ∷ drop (w.item + 1) events) at)
     (c.answered-2.ensures

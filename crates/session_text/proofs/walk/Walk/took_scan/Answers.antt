@@ -9,7 +9,7 @@ pub returns-then-as_slice-self : goal.returns-then-as_slice-self
 returns-then-as_slice-self c =
     let item = ap (λ (w : Place). w.item) c.self.view_is in
     let len = ap length c.as_slice.ensures in
-    scan_exit_moves c.args.bytes.now c.args.self.now _ c.args.r.now c.requires.over c.requires.waiting
+    scan_exit_moves c.args.bytes.now c.args.self.now _ c.args.r.now
     (drop_all c.args.self.now.item c.args.bytes.now.bytes (omega (arith, item, len)))
     c.answered.ensures
 
@@ -17,7 +17,7 @@ pub returns : goal.returns
 returns c =
     let item = ap (λ (w : Place). w.item) c.self.view_is in
     let len = ap length c.as_slice.ensures in
-    scan_moves c.args.bytes.now c.args.self.now _ c.args.r.now _ c.requires.over c.requires.waiting
+    scan_moves c.args.bytes.now c.args.self.now _ c.args.r.now _
     (drop_more c.args.bytes.now.bytes c.args.self.now.item 0 (omega (arith, item, len)))
     (c.answered-2.ensures
     ∙ (λ i. record (c.self.view_is i) {

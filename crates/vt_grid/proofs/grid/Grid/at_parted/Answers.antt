@@ -11,8 +11,8 @@ returns-then-border-x-gt1 c =
     let s = c.args.self.now in
     let row = row_at s c.args.y in
     let full = c.size-cols.ensures.full in
-    let wide : length row ≡ s.cols = full.wide c.args.y [] (omega (arith, full.tall, c.requires.row)) in
-    get_away row c.args.border c.args.x c.at-cell.result (omega (arith, wide, c.requires.column))
+    let wide : length row ≡ s.cols = full.wide c.args.y [] (omega (arith, full.tall, c.requires.place.row)) in
+    get_away row c.args.border c.args.x c.at-cell.result (omega (arith, wide, c.requires.place.column))
     (omega (arith, c.if-border-x-gt1.true)) c.at-cell.ensures
 
 pub returns-then-cols-border : goal.returns-then-cols-border
@@ -20,7 +20,7 @@ returns-then-cols-border c =
     let s = c.args.self.now in
     let row = row_at s c.args.y in
     let full = c.size-cols.ensures.full in
-    let wide : length row ≡ s.cols = full.wide c.args.y [] (omega (arith, full.tall, c.requires.row)) in
+    let wide : length row ≡ s.cols = full.wide c.args.y [] (omega (arith, full.tall, c.requires.place.row)) in
     get_same row c.args.border c.args.x c.at-cell.result
     (split_wide_past c.args.border row (omega (arith, wide, c.size-cols.ensures.cols, c.if-cols-border.true))) c.at-cell.ensures
 
@@ -29,7 +29,7 @@ returns-then-at-eq-HALF c =
     let s = c.args.self.now in
     let row = row_at s c.args.y in
     let full = c.size-cols.ensures.full in
-    let wide : length row ≡ s.cols = full.wide c.args.y [] (omega (arith, full.tall, c.requires.row)) in
+    let wide : length row ≡ s.cols = full.wide c.args.y [] (omega (arith, full.tall, c.requires.place.row)) in
     let half_is : is_half c.at.result ≡ true = ap (λ n. n == half) c.if-at-eq-HALF.true in
     let next : c.args.border ≡ suc c.args.x = omega (arith, c.requires.before, c.if-border-x-gt1.false) in
     get_left row c.args.border c.args.x c.at-cell.result c.at.result next

@@ -12,7 +12,7 @@ returns-then-right-eq-HALF c =
     let x = c.args.x in
     let half_is : is_half c.at-right.result ≡ true = ap (λ n. n == half) c.if-right-eq-HALF.true in
     let x_is : x ≡ suc (x - 1) = omega (arith, c.requires.some) in
-    let y_in : y < length s.cells = omega (arith, c.requires.row, c.stays_full.ensures.full.tall) in
+    let y_in : y < length s.cells = omega (arith, c.requires.place.row, c.stays_full.ensures.full.tall) in
     c.put-then-right-eq-HALF.ensures
     ∙ ap (λ (t : GridView). with_cell t y x c.space_in_colours-then-right-eq-HALF.result) c.put.ensures
     ∙ (λ i. with_cell (with_cell s y (x - 1) (c.space_in_colours.ensures i)) y x (c.space_in_colours-then-right-eq-HALF.ensures i))

@@ -1,6 +1,6 @@
 use Rattle.std.proofs.Common.{◌≡◌, ◌<◌, ◌≤◌, ℕ, List, length, take, ap, ◌∙◌, arith}
 use Rattle.std.proofs.lemmas.List.{length-take, length-take-le}
-use Rattle.vt_screen.proofs.Prefixes.{prefix_all}
+use Rattle.vt_screen.proofs.Prefixes.{plain_within, prefix_all}
 use Rattle.vt_screen.proofs.Spread.{plain_front, put_narrow}
 use Rattle.vt_cells.specs.Width.{is_plain}
 use Rattle.vt_screen.specs.Printing.{with_cells_at_cursor}
@@ -13,10 +13,10 @@ returns-then-count-gt0-clause-printed c =
     let codes : List ℕ = c.args.codes.now in
     let m : ℕ = c.min.result in
     let count : ℕ = c.plain_prefix-count.result in
-    let within = c.plain_prefix-count.ensures.within in
+    let within : count ≤ length (take m codes) = omega (arith, c.plain_prefix-count.ensures, plain_within (take m codes)) in
     let short : count ≤ m = omega (arith, within, length-take m codes) in
     let fits_codes : count ≤ length codes = omega (arith, within, length-take m codes) in
-    let plain = plain_front c.columns_are_few.ensures.plain codes m count c.plain_prefix-count.ensures.count short in
+    let plain = plain_front c.columns_are_few.ensures.plain codes m count c.plain_prefix-count.ensures short in
     let len : length (take count codes) ≡ count = length-take-le count codes fits_codes in
     let some : 0 < length (take count codes) = omega (arith, len, c.if-count-gt0.true) in
     let in_room : count ≤ c.room.result = omega (arith, short, c.min.ensures) in
@@ -28,4 +28,4 @@ returns-then-count-gt0-clause-printed c =
 
 pub put_plain-requires-clause-plain : goal.put_plain-requires-clause-plain
 put_plain-requires-clause-plain c =
-    prefix_all is_plain (take c.min.result c.args.codes.now) c.plain_prefix-count.result c.plain_prefix-count.ensures.count
+    prefix_all is_plain (take c.min.result c.args.codes.now) c.plain_prefix-count.result c.plain_prefix-count.ensures

@@ -11,8 +11,8 @@ loop-at-preserved c =
       within = c.loop-at-test.true;
     }
 
-pub returns-then-are_four_plain-clause-count : goal.returns-then-are_four_plain-clause-count
-returns-then-are_four_plain-clause-count c =
+pub returns-then-are_four_plain : goal.returns-then-are_four_plain
+returns-then-are_four_plain c =
     plain_end c.args.codes.now c.loop-at.at c.loop-at.invariant.within (omega arith) c.if-codes-ge4.true
     (c.are_four_plain-then-codes-ge4.ensures.each c.if-are_four_plain.true)
     ∙ sym c.loop-at.invariant.count

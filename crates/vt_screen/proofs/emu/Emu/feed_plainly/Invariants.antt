@@ -1,10 +1,10 @@
-use Rattle.std.proofs.Common.{◌≡◌, ◌≤◌, [], length, drop}
-use Rattle.vt_screen.specs.Run.{screen_effects, with_outs}
-use Rattle.vt_units.specs.Run.{run}
+use Rattle.std.proofs.Common.{◌≡◌, ◌≤◌, length, take}
+use Rattle.vt_screen.specs.Run.{after, outs_of_run}
 use Rattle.vt_screen.proofs.emu.Emu.feed_plainly.Given as goal
 
 abbrev pub invariant-loop-byte : goal.invariant-loop-byte
 invariant-loop-byte l = record {
-  outs : length l.outs ≤ l.byte-index;
-  run : run screen_effects (drop l.byte-index l.b) (with_outs l.outs l.self) ≡ run screen_effects l.b (with_outs [] l.fn.self);
+  few : length l.outs ≤ l.byte-index;
+  done : l.self ≡ after l.fn.self (take l.byte-index l.b);
+  outs : l.outs ≡ outs_of_run l.fn.self (take l.byte-index l.b);
 }

@@ -1,17 +1,17 @@
-use Rattle.std.proofs.Common.{◌≡◌, ◌<◌, false, ℕ, List, take, length, ◌==◌, sym, ap, ◌∙◌, arith}
+use Rattle.std.proofs.Common.{◌≡◌, ◌<◌, false, ℕ, List, [], take, length, ◌==◌, sym, ap, ◌∙◌, arith}
 use Rattle.std.proofs.lemmas.Bool.{cond-false}
 use Rattle.std.proofs.lemmas.Bool.Decides.{nat_tests}
 use Rattle.std.proofs.lemmas.List.{length-take-le}
 use Rattle.vt_screen.proofs.Shown.{codes_run}
 use Rattle.vt_screen.specs.Printing.{print_characters}
-use Rattle.vt_screen.specs.Run.{screen_effects, with_outs}
+use Rattle.vt_screen.specs.Run.{run_from, with_outs}
 use Rattle.vt_screen.specs.Screen.{Screen}
 use Rattle.vt_units.specs.Rest.{Rest, fresh}
-use Rattle.vt_units.specs.Run.{Reached, make_reached, run}
+use Rattle.vt_units.specs.Run.{Reached, make_reached}
 use Rattle.vt_screen.proofs.emu.Emu.print_characters.Goals as goal
 
-pub returns-then-count-gt0-clause-run : goal.returns-then-count-gt0-clause-run
-returns-then-count-gt0-clause-run c = λ outs.
+pub returns-then-count-gt0 : goal.returns-then-count-gt0
+returns-then-count-gt0 c =
     let text : List ℕ = c.args.b.now in
     let count : ℕ = c.take_characters-count.result in
     let front : List ℕ = take count text in
@@ -26,8 +26,10 @@ returns-then-count-gt0-clause-run c = λ outs.
     let left : c.take_characters-count.new.self ≡ fresh c.mode.result =
     c.take_characters-count.ensures.rest ∙ cond-false (count == 0) rest (fresh c.mode.result) not_none in
     let shown : c.print_codes.new.self ≡ print_characters codes s =
-    c.print_codes.ensures ∙ ap (λ (cs : List ℕ). print_characters cs s) c.as_slice.ensures.codes in
-    ap (λ (m : Reached Screen). run screen_effects front (with_outs outs m)) (sym c.self.view_is)
-    ∙ codes_run c.printables_are_characters.ensures front codes outs s rest c.mode.result c.mode.ensures
-    c.take_characters-count.ensures.texts long begun.0 begun.1
-    ∙ (λ i. with_outs outs (make_reached (sym shown i) (sym left i)))
+    c.print_codes.ensures ∙ ap (λ (cs : List ℕ). print_characters cs s) c.as_slice.ensures.codes in (
+      c.take_characters-count.ensures.bound,
+      ap (λ (m : Reached Screen). run_from m front) (sym c.self.view_is)
+          ∙ codes_run c.printables_are_characters.ensures front codes s rest c.mode.result c.mode.ensures
+          c.take_characters-count.ensures.texts long begun.0 begun.1
+          ∙ (λ i. with_outs [] (make_reached (sym shown i) (sym left i))),
+    )

@@ -4,17 +4,17 @@ use Rattle.std.proofs.lemmas.List.{length-take-le}
 use Rattle.vt_screen.proofs.Printed.{empty_is, rest_behind}
 use Rattle.vt_screen.proofs.Scrolled.{behind_some, feeds_run}
 use Rattle.vt_screen.specs.Cursor.{newlines}
-use Rattle.vt_screen.specs.Run.{screen_effects, with_outs}
+use Rattle.vt_screen.specs.Run.{run_from, with_outs}
 use Rattle.vt_screen.specs.Screen.{Screen, mode_of}
 use Rattle.vt_units.specs.Bytes.{is_control}
 use Rattle.vt_units.specs.Reading.{is_empty}
 use Rattle.vt_units.specs.Rest.{Rest, fresh}
-use Rattle.vt_units.specs.Run.{Reached, make_reached, run}
+use Rattle.vt_units.specs.Run.{Reached, make_reached}
 use Rattle.vt_units.specs.declared.mode.Mode.{Mode}
 use Rattle.vt_screen.proofs.emu.Emu.scroll_linefeeds.Goals as goal
 
-pub returns-clause-run : goal.returns-clause-run
-returns-clause-run c = λ outs.
+pub returns : goal.returns
+returns c =
     let n : ℕ = c.line_feeds-count.result in
     let text : List ℕ = c.args.b.now in
     let bytes : List ℕ = take n text in
@@ -32,7 +32,9 @@ returns-clause-run c = λ outs.
     let drawn : newlines (length bytes) s ≡ c.scroll.new.self =
     ap (λ (k : ℕ). newlines k s) len ∙ sym c.scroll.ensures in
     let behind : rest_behind bytes (mode_of s) rest ≡ c.take_control.new.self =
-    behind_some bytes (mode_of s) rest some ∙ ap fresh (sym c.mode.ensures) ∙ sym left in
-    ap (λ (r : Reached Screen). run screen_effects bytes (with_outs outs r)) (sym c.self.view_is)
-    ∙ feeds_run c.controls_are_units.ensures bytes outs s rest c.line_feeds-count.ensures.feeds nothing
-    ∙ (λ i. with_outs outs (make_reached (drawn i) (behind i)))
+    behind_some bytes (mode_of s) rest some ∙ ap fresh (sym c.mode.ensures) ∙ sym left in (
+      c.line_feeds-count.ensures.within,
+      ap (λ (r : Reached Screen). run_from r bytes) (sym c.self.view_is)
+          ∙ feeds_run c.controls_are_units.ensures bytes s rest c.line_feeds-count.ensures.feeds nothing
+          ∙ (λ i. with_outs [] (make_reached (drawn i) (behind i))),
+    )

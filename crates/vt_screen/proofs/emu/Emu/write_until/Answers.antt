@@ -1,33 +1,24 @@
-use Rattle.std.proofs.Common.{[], ap, sym, arith, length}
-use Rattle.vt_screen.proofs.Feeds.{run_to}
-use Rattle.vt_screen.specs.Run.{ScreenAndOuts, with_outs}
-use Rattle.vt_units.specs.Run.{Reached, make_reached}
+use Rattle.std.proofs.Common.{◌≡◌, ◌++◌, List, [], Option, None, Some, is_none, true, refl, ap, sym, ◌∙◌, arith, length, length-drop}
+use Rattle.std.proofs.lemmas.List.{take_rest}
+use Rattle.vt_screen.proofs.Feeds.{runs_on}
+use Rattle.vt_screen.specs.Run.{outs_of_option}
+use Rattle.vt_screen.specs.declared.out.Out.{Out}
 use Rattle.vt_screen.proofs.emu.Emu.write_until.Goals as goal
+
+no_outs : (said : Option Out) → is_none said ≡ true → outs_of_option said ≡ []
+no_outs None none = refl
+no_outs (Some out) none = absurd (let e : ⊥ = cc in e)
 
 pub loop-at-preserved : goal.loop-at-preserved
 loop-at-preserved c =
+    let next =
+    runs_on c.args.b.now c.loop-at.at c.take_prefix-at.result c.args.self.now c.loop-at.self c.take_prefix-at.new.self
+    c.take_prefix-at.new.said c.loop-at.invariant.done c.take_prefix-at.ensures.ran in
+    let nothing : outs_of_option c.loop-at.said ≡ [] = no_outs c.loop-at.said (sym c.is_none.ensures ∙ c.if-is_none.true) in
     record {
-      within = omega arith;
-      one = omega (arith, c.if-as_slice-eq0.true, ap length c.as_slice.ensures.items, c.take_prefix-at.ensures.one);
-      run =
-          run_to c.args.b.now c.loop-at.at c.take_prefix-at.result (with_outs [] c.args.self.now)
-          (with_outs c.loop-at.outs c.loop-at.self)
-          (with_outs c.take_prefix-at.new.outs c.take_prefix-at.new.self)
-          c.loop-at.invariant.run c.take_prefix-at.ensures.run;
+      within = omega (arith, c.take_prefix-at.ensures.ran.0, ap length (take_rest c.args.b.now c.loop-at.at), length-drop c.loop-at.at c.args.b.now);
+      done = next.0;
+      outs =
+          ap (λ (outs : List Out). outs ++ outs_of_option c.take_prefix-at.new.said) (sym nothing ∙ c.loop-at.invariant.outs)
+          ∙ next.1;
     }
-
-pub returns-after-loop-at-clause-screen : goal.returns-after-loop-at-clause-screen
-returns-after-loop-at-clause-screen c =
-    sym (ap (λ (end : Reached ScreenAndOuts). make_reached end.state.screen end.rest) c.loop-at.invariant.run)
-
-pub returns-after-loop-at-clause-outs : goal.returns-after-loop-at-clause-outs
-returns-after-loop-at-clause-outs c =
-    sym (ap (λ (end : Reached ScreenAndOuts). end.state.outs) c.loop-at.invariant.run)
-
-pub returns-else-as_slice-eq0-clause-screen : goal.returns-else-as_slice-eq0-clause-screen
-returns-else-as_slice-eq0-clause-screen c =
-    sym (ap (λ (end : Reached ScreenAndOuts). make_reached end.state.screen end.rest) c.loop-at.invariant.run)
-
-pub returns-else-as_slice-eq0-clause-outs : goal.returns-else-as_slice-eq0-clause-outs
-returns-else-as_slice-eq0-clause-outs c =
-    sym (ap (λ (end : Reached ScreenAndOuts). end.state.outs) c.loop-at.invariant.run)

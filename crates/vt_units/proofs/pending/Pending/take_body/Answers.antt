@@ -1,17 +1,27 @@
-use Rattle.std.proofs.Common.{◌≡◌, ℕ, List, [], ◌∷◌, ◌++◌, sym, ap, ◌∙◌, subst}
+use Rattle.std.proofs.Common.{◌<◌, ℕ, List, length, sym, ap, ◌∙◌, subst, arith}
+use Rattle.vt_units.proofs.Bodies.{body_quiet, body_stands}
 use Rattle.vt_units.specs.Rest.{Rest}
-use Rattle.vt_units.specs.ParserState.{Quiet, rest_of}
+use Rattle.vt_units.specs.ParserState.{Quiet, Stands, rest_of}
 use Rattle.vt_units.specs.declared.mode.Mode.{Mode}
+use Rattle.vt_units.specs.declared.parser_state.ParserState as stage
 use Rattle.vt_units.proofs.pending.Pending.take_body.Goals as goal
 
-pub returns-then-goes-clause-goes : goal.returns-then-goes-clause-goes
-returns-then-goes-clause-goes c = λ is.
+pub invariant_of-self : goal.invariant_of-self
+invariant_of-self c =
     let m : Mode = c.self.inside.mode in
-    let b : ℕ = c.args.b in
-    let text : List ℕ = c.as_slice.result.now in
-    let same : rest_of m text ≡ c.args.self.now = ap (rest_of m) c.as_slice.ensures.bytes ∙ c.self.view_is in
-    let longer : rest_of m (text ++ b ∷ []) ≡ rest_of m c.push.new.self =
-    ap (λ (t : List ℕ). rest_of m (t ++ b ∷ [])) c.as_slice.ensures.bytes ∙ ap (rest_of m) (sym c.push.ensures) in
-    let quiet : Quiet (rest_of m text) b (rest_of m (text ++ b ∷ [])) = c.joins_body-goes.ensures.goes is in
-    subst (λ (old : Rest). Quiet old b (rest_of m c.push.new.self)) same
-    (subst (λ (new : Rest). Quiet (rest_of m text) b new) longer quiet)
+    let text : List ℕ = c.self.inside.text in
+    let stands : Stands stage.ParserState.Control m text = subst (λ at. Stands at m text) c.in-Control.is c.self.invariant in
+    let room : length text < 256 = omega (arith, c.if-as_slice-ge-SEQUENCE_BYTES.false, ap length c.as_slice.ensures.bytes) in
+    subst (λ (at : stage.ParserState). Stands at m c.push.new.self) (sym c.in-Control.is)
+    (subst (λ (t : List ℕ). Stands stage.ParserState.Control m t) (sym c.push.ensures)
+    (body_stands m text c.args.b stands (sym c.is_body.ensures ∙ c.if-not-is_body.false) room))
+
+pub returns-clause-goes : goal.returns-clause-goes
+returns-clause-goes c = λ is.
+    let m : Mode = c.self.inside.mode in
+    let text : List ℕ = c.self.inside.text in
+    let stands : Stands stage.ParserState.Control m text = subst (λ at. Stands at m text) c.in-Control.is c.self.invariant in
+    let room : length text < 256 = omega (arith, c.if-as_slice-ge-SEQUENCE_BYTES.false, ap length c.as_slice.ensures.bytes) in
+    subst (λ (old : Rest). Quiet old c.args.b (rest_of m c.push.new.self)) c.self.view_is
+    (subst (λ (t : List ℕ). Quiet (rest_of m text) c.args.b (rest_of m t)) (sym c.push.ensures)
+    (body_quiet m text c.args.b stands (sym c.is_body.ensures ∙ c.if-not-is_body.false) room))

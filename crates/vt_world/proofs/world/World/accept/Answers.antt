@@ -4,6 +4,4 @@ use Rattle.vt_world.proofs.Owners.{same_live}
 use Rattle.vt_world.proofs.world.World.accept.Goals as goal
 
 pub invariant_of-self : goal.invariant_of-self
-invariant_of-self c =
-    same_live c.self.inside.terminals c.self.inside.switch c.self.inside.procs c.accept.new.self
-    (ap lives c.accept.ensures) c.self.invariant
+invariant_of-self c = same_live (ap lives c.accept.ensures) c.self.invariant

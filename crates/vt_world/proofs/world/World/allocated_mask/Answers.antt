@@ -1,4 +1,4 @@
-use Rattle.std.proofs.Common.{◌≡◌, ℕ, ◌^◌, map, ap, ◌∙◌, arith}
+use Rattle.std.proofs.Common.{◌≡◌, ◌≤◌, ℕ, ◌^◌, map, ap, subst, ◌∙◌, arith}
 use Rattle.std.specs.List.{range_with_len}
 use Rattle.std.specs.Prelude.{sum, if◌then◌else◌}
 use Rattle.vt_switch.specs.Display.{is_allocated}
@@ -10,8 +10,9 @@ loop-k-preserved c =
     let bit : ℕ → ℕ = λ n. if is_allocated c.args.self.now.display n then 2 ^ n else 0 in
     let part = c.allocated_bit-mask in
     record {
-      sum = sum_more bit c.loop-k.k c.loop-k.mask part.result c.loop-k.invariant.sum part.ensures.bit;
-      bound = bits_more c.loop-k.k c.loop-k.mask part.result c.loop-k.invariant.bound part.ensures.bound;
+      sum = sum_more bit c.loop-k.k c.loop-k.mask part.result c.loop-k.invariant.sum (part.ensures.bit ∙ ap bit c.numbered.ensures);
+      bound = bits_more c.loop-k.k c.loop-k.mask part.result c.loop-k.invariant.bound
+          (subst (λ n. part.result ≤ 2 ^ n) c.numbered.ensures part.ensures.bound);
     }
 
 pub returns : goal.returns

@@ -5,6 +5,4 @@ use Rattle.vt_world.proofs.world.World.apply_idle_rule.Goals as goal
 
 pub invariant_of-self : goal.invariant_of-self
 invariant_of-self c =
-    same_live c.self.inside.terminals c.self.inside.switch c.self.inside.procs c.settle.new.self
-    (ap lives c.settle.ensures ∙ settled_kept c.self.inside.procs)
-    c.self.invariant
+    same_live (ap lives c.settle.ensures ∙ settled_kept c.self.inside.procs) c.self.invariant

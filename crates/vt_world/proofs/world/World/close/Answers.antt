@@ -1,10 +1,6 @@
-use Rattle.std.proofs.Common.{refl, ap, ◌∙◌}
-use Rattle.vt_world.proofs.Cores.{lives, with_kept}
-use Rattle.vt_world.proofs.Owners.{same_live}
+use Rattle.std.proofs.Common.{refl}
+use Rattle.vt_world.proofs.Owners.{one_kept}
 use Rattle.vt_world.proofs.world.World.close.Goals as goal
 
 pub invariant_of-self : goal.invariant_of-self
-invariant_of-self c =
-    same_live c.self.inside.terminals c.self.inside.switch c.self.inside.procs c.shut.new.self
-    (ap lives c.shut.ensures ∙ with_kept c.self.inside.procs c.args.p _ refl)
-    c.self.invariant
+invariant_of-self c = one_kept c.args.p _ c.shut.ensures refl c.self.invariant

@@ -10,7 +10,7 @@ returns-then-not-is_opened c =
     let p : ℕ → Bool = λ n. not (is_opened c.args.self.now.callers n) in
     let from : ℕ = c.args.low + c.loop-k.k in
     let rest : Option ℕ = find p (range_with_len (from + 1) (c.args.len - (c.loop-k.k + 1))) in
-    ap (λ b. cond b (Some from) rest) (sym (ap not (sym c.is_opened.ensures ∙ c.if-not-is_opened.true)))
+    ap (λ b. cond b (Some from) rest) (sym (ap not (ap (is_opened c.args.self.now.callers) (sym c.numbered.ensures) ∙ sym c.is_opened.ensures ∙ c.if-not-is_opened.true)))
     ∙ ap (find p) (sym (range_first from c.loop-k.k c.args.len c.loop-k-test.true))
     ∙ c.loop-k.invariant
 
@@ -22,6 +22,6 @@ loop-k-preserved c =
     let rest : Option ℕ = find p (range_with_len (from + 1) (c.args.len - (k + 1))) in
     let next : c.args.low + (k + 1) ≡ from + 1 = omega arith in
     ap (λ n. find p (range_with_len n (c.args.len - (k + 1)))) next
-    ∙ ap (λ b. cond b (Some from) rest) (sym (ap not (sym c.is_opened.ensures ∙ c.if-not-is_opened.false)))
+    ∙ ap (λ b. cond b (Some from) rest) (sym (ap not (ap (is_opened c.args.self.now.callers) (sym c.numbered.ensures) ∙ sym c.is_opened.ensures ∙ c.if-not-is_opened.false)))
     ∙ ap (find p) (sym (range_first from k c.args.len c.loop-k-test.true))
     ∙ c.loop-k.invariant

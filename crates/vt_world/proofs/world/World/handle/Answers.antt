@@ -7,8 +7,7 @@ use Rattle.vt_world.proofs.world.World.handle.Goals as goal
 
 pub invariant_of-self : goal.invariant_of-self
 invariant_of-self c =
-    still_world c.each_target_was_asked_for.ensures.owners c.self.inside.terminals c.self.inside.switch
-    c.set_mode.new.self c.self.inside.procs (SetMode c.args.c c.args.p c.args.m) refl
+    still_world c.each_target_was_asked_for.ensures.owners (SetMode c.args.c c.args.p c.args.m) refl
     (set_mode c.self.inside.switch c.self.inside.procs c.args.c c.args.p c.args.m
     (ap (λ (w : WorldState). is_live w.callers c.args.p) c.self.view_is ∙ c.requires))
     c.set_mode.ensures.state c.self.invariant

@@ -1,5 +1,6 @@
-use Rattle.std.proofs.Common.{◌-◌, ℕ, map, sym, ap, ◌∙◌}
+use Rattle.std.proofs.Common.{◌-◌, ℕ, map, Some, None, sym, ap, ◌∙◌}
 use Rattle.std.specs.List.{find}
+use Rattle.std.specs.Prelude.{if◌then◌else◌}
 use Rattle.vt_switch.specs.Display.{is_allocated}
 use Rattle.vt_world.proofs.Requests.{found_here, found_later, range_first}
 use Rattle.vt_world.proofs.world.World.highest.Goals as goal
@@ -9,7 +10,7 @@ returns-then-is_some c =
     let p = is_allocated c.args.self.now.display in
     let k : ℕ = c.loop-k.k in
     let high : ℕ = c.args.high in
-    found_here p (high - k) _ c.allocated_at-c.result c.allocated_at-c.ensures
+    found_here p (high - k) _ c.if_allocated-c.result (c.if_allocated-c.ensures ∙ ap (λ n. if p n then Some n else None) c.numbered.ensures)
     (sym c.is_some.ensures ∙ c.if-is_some.true)
     ∙ ap (λ ns. find p (map (λ j. high - j) ns))
     (sym (range_first k k c.args.len c.loop-k-test.true))
@@ -20,7 +21,7 @@ loop-k-preserved c =
     let p = is_allocated c.args.self.now.display in
     let k : ℕ = c.loop-k.k in
     let high : ℕ = c.args.high in
-    sym (found_later p (high - k) _ c.allocated_at-c.result c.allocated_at-c.ensures
+    sym (found_later p (high - k) _ c.if_allocated-c.result (c.if_allocated-c.ensures ∙ ap (λ n. if p n then Some n else None) c.numbered.ensures)
     (sym c.is_some.ensures ∙ c.if-is_some.false))
     ∙ ap (λ ns. find p (map (λ j. high - j) ns))
     (sym (range_first k k c.args.len c.loop-k-test.true))

@@ -5,6 +5,4 @@ use Rattle.vt_world.proofs.world.World.lock.Goals as goal
 
 pub invariant_of-self : goal.invariant_of-self
 invariant_of-self c =
-    still_world c.each_target_was_asked_for.ensures.owners c.self.inside.terminals c.self.inside.switch
-    c.set_lock.new.self c.self.inside.procs (Lock c.args.on) refl refl c.set_lock.ensures
-    c.self.invariant
+    still_world c.each_target_was_asked_for.ensures.owners (Lock c.args.on) refl refl c.set_lock.ensures c.self.invariant

@@ -1,16 +1,9 @@
-use Rattle.std.proofs.Common.{refl, ap, ◌∙◌}
-use Rattle.vt_world.proofs.Cores.{lives, with_kept}
-use Rattle.vt_world.proofs.Owners.{same_live}
+use Rattle.std.proofs.Common.{refl}
+use Rattle.vt_world.proofs.Owners.{one_kept}
 use Rattle.vt_world.proofs.world.World.open.Goals as goal
 
 pub invariant_of-self : goal.invariant_of-self
-invariant_of-self c =
-    same_live c.self.inside.terminals c.self.inside.switch c.self.inside.procs c.add_open.new.self
-    (ap lives c.add_open.ensures.state ∙ with_kept c.self.inside.procs c.args.p _ refl)
-    c.self.invariant
+invariant_of-self c = one_kept c.args.p _ c.add_open.ensures.state refl c.self.invariant
 
 pub invariant_of-self-2 : goal.invariant_of-self-2
-invariant_of-self-2 c =
-    same_live c.self.inside.terminals c.self.inside.switch c.self.inside.procs c.add_open.new.self
-    (ap lives c.add_open.ensures.state ∙ with_kept c.self.inside.procs c.args.p _ refl)
-    c.self.invariant
+invariant_of-self-2 c = one_kept c.args.p _ c.add_open.ensures.state refl c.self.invariant

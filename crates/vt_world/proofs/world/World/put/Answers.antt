@@ -6,6 +6,4 @@ use Rattle.vt_world.proofs.world.World.put.Goals as goal
 
 pub invariant_of-self : goal.invariant_of-self
 invariant_of-self c =
-    same_live c.self.inside.terminals c.self.inside.switch c.self.inside.procs c.filled.new.self
-    (ap lives c.filled.ensures ∙ filled_kept true c.args.c c.self.inside.procs)
-    c.self.invariant
+    same_live (ap lives c.filled.ensures ∙ filled_kept true c.args.c c.self.inside.procs) c.self.invariant

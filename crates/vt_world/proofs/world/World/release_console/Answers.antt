@@ -5,6 +5,4 @@ use Rattle.vt_world.proofs.world.World.release_console.Goals as goal
 
 pub invariant_of-self : goal.invariant_of-self
 invariant_of-self c =
-    still_world c.each_target_was_asked_for.ensures.owners c.self.inside.terminals c.self.inside.switch
-    c.release.new.self c.self.inside.procs (Release c.args.c c.args.p c.args.arg) refl refl c.release.ensures.state
-    c.self.invariant
+    still_world c.each_target_was_asked_for.ensures.owners (Release c.args.c c.args.p c.args.arg) refl refl c.release.ensures.state c.self.invariant

@@ -6,6 +6,6 @@ use Rattle.vt_world.proofs.world.World.run_piece.Goals as goal
 
 pub invariant_of-self : goal.invariant_of-self
 invariant_of-self c =
-    alike_world c.self.inside.terminals c.write.new.self c.self.inside.switch c.self.inside.procs
+    alike_world
     (ap (map is_some) c.write.ensures.terminals ∙ written_alike c.args.c c.args.b.now c.self.inside.terminals)
     c.self.invariant

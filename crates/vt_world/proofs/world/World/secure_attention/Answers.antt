@@ -1,4 +1,4 @@
-use Rattle.std.proofs.Common.{arith, ap, cond, false, [], ◌∷◌, ◌∙◌, Bool}
+use Rattle.std.proofs.Common.{ap, cond, false, [], ◌∷◌, ◌∙◌, Bool}
 use Rattle.vt_switch.specs.Acts.{End, SetKd}
 use Rattle.vt_world.specs.Deeds.{By, apply_deed}
 use Rattle.vt_world.specs.State.{WorldState}
@@ -17,5 +17,5 @@ loop-p-preserved c =
           ∙ ap (λ (b : Bool). cond b (apply_deed w (By (End c.loop-p.p))) w)
           (c.users-users.ensures c.loop-p.p c.loop-p-test.true))
           ∙ c.loop-p.invariant.done;
-      room = omega (arith, c.end_user.ensures.room, c.loop-p.invariant.room);
+      room = c.end_user.ensures.room;
     }

@@ -5,6 +5,4 @@ use Rattle.vt_world.proofs.world.World.show.Goals as goal
 
 pub invariant_of-self : goal.invariant_of-self
 invariant_of-self c =
-    still_world c.each_target_was_asked_for.ensures.owners c.self.inside.terminals c.self.inside.switch
-    c.set_kd.new.self c.self.inside.procs (SetKd c.args.c c.args.graphics) refl refl c.set_kd.ensures
-    c.self.invariant
+    still_world c.each_target_was_asked_for.ensures.owners (SetKd c.args.c c.args.graphics) refl refl c.set_kd.ensures c.self.invariant

@@ -38,5 +38,5 @@ returns c =
     ∙ ap (λ (l : StoredRow). cut_at c.self.inside.size.cols l.rest l) c.row.ensures.line
     ∙ ap (λ (s : Store). cut_at s.cols (stored_row c.args.old.now c.args.from).rest
     (stored_row c.args.old.now c.args.from)) c.self.view_is))
-    ∙ shown_copy_row c.args.self.now c.args.old.now c.args.y c.args.from c.requires.row c.requires.from
-    c.stays_fit.ensures.fit c.stays_fit-2.ensures.fit c.requires.columns
+    ∙ shown_copy_row c.args.self.now c.args.old.now c.args.y c.args.from c.requires.row c.requires.old_run.row
+    c.stays_fit.ensures.fit c.stays_fit-2.ensures.fit (omega (arith, c.requires.old_run.columns))

@@ -28,8 +28,8 @@ returns c =
     ap grid_view
     (changed_is _ _ c.self.inside.ring c.self.inside.rows.items c.self.invariant.0 c.args.self.now
     c.args.y c.from.result c.index_mut-row.result.now c.cover.new.self
-    (with_prefix_of c.args.count (stored_row c.args.old.now c.args.from)) c.self.view_is c.requires.row (c.from.ensures ∙ c.at-number.ensures)
+    (with_prefix_of c.args.count (stored_row c.args.old.now c.args.from)) c.self.view_is c.requires.run.row (c.from.ensures ∙ c.at-number.ensures)
     c.index_mut-row.ensures.value (ap (λ (r : RowSlot). r.line) c.cover.ensures
     ∙ ap (λ (l : StoredRow). with_prefix_of c.args.count l c.index_mut-row.result.now.line) c.row.ensures.line))
-    ∙ shown_cover_row c.args.self.now c.args.old.now c.args.y c.args.from c.args.count c.requires.row
-    c.requires.from c.stays_fit.ensures.fit c.stays_fit-2.ensures.fit c.requires.columns c.requires.old_columns
+    ∙ shown_cover_row c.args.self.now c.args.old.now c.args.y c.args.from c.args.count c.requires.run.row
+    c.requires.old_run.row c.stays_fit.ensures.fit c.stays_fit-2.ensures.fit (omega (arith, c.requires.run.columns)) (omega (arith, c.requires.old_run.columns))

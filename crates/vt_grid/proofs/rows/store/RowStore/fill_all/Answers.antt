@@ -5,7 +5,7 @@ use Rattle.vt_cells.specs.Width.{is_half}
 use Rattle.vt_grid.proofs.Clears.{IsNaming_blank, rows_by_number_blank}
 use Rattle.vt_grid.proofs.Narrow.{blank_narrow}
 use Rattle.vt_grid.proofs.Shown.{shown_blank_store}
-use Rattle.vt_grid.specs.Grid.{GridView, filled_grid}
+use Rattle.vt_grid.specs.Grid.{filled_grid}
 use Rattle.vt_grid.specs.StoredRow.{StoredRow}
 use Rattle.vt_grid.specs.Ring.{AreNarrow, IsNaming, RowSlot, blank_slot, rows_by_number}
 use Rattle.vt_grid.specs.Store.{Store, grid_view}

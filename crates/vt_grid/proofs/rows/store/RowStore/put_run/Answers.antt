@@ -38,8 +38,8 @@ returns g c =
     ap grid_view
     (changed_is _ _ c.self.inside.ring c.self.inside.rows.items c.self.invariant.0 c.args.self.now
     c.args.y c.from.result c.index_mut-row.result.now c.write_run.new.self
-    (λ line. with_stored_cells c.args.x (cells g c) (stored_up_to c.args.x line)) c.self.view_is c.requires.row (c.from.ensures ∙ c.at-number.ensures)
+    (λ line. with_stored_cells c.args.x (cells g c) (stored_up_to c.args.x line)) c.self.view_is c.requires.run.row (c.from.ensures ∙ c.at-number.ensures)
     c.index_mut-row.ensures.value (ap (λ (r : RowSlot). r.line) c.write_run.ensures
     ∙ ap (λ (r : RowSlot). with_stored_cells c.args.x (cells g c) r.line) c.reach.ensures))
-    ∙ shown_put_run c.args.self.now c.args.y c.args.x (cells g c) c.requires.row
+    ∙ shown_put_run c.args.self.now c.args.y c.args.x (cells g c) c.requires.run.row
     c.stays_fit.ensures.fit (omega arith)

@@ -1,8 +1,0 @@
-use Rattle.std.proofs.Common.{◌≡◌, ◌↔◌, length}
-use Rattle.vt_grid.proofs.changes.are_same.Given as goal
-
-abbrev pub invariant-loop-cell : goal.invariant-loop-cell
-invariant-loop-cell l = (l.first ≡ l.second) ↔ (l.fn.first ≡ l.fn.second)
-
-abbrev pub decreases-loop-cell : goal.decreases-loop-cell
-decreases-loop-cell l = length l.first

@@ -1,0 +1,52 @@
+//! The rows that a text may change.
+ghost use Rattle.std.specs.Prelude.{◌≡◌, [], true, false, IfSome};
+ghost use Rattle.vt_screen.specs.Screen.{mode_of};
+ghost use Rattle.vt_screen.specs.Touched.{ChangesAtMost};
+ghost use Rattle.vt_units.specs.Bytes.{decodes};
+
+use super::Emu;
+use crate::place::{Place, next_place};
+
+impl Emu {
+    /// The first and the last row that these bytes may change, where it is known: between two units, with
+    /// autowrap and without newline mode, for bytes of UTF-8 that are printable characters of ASCII, BEL, BS,
+    /// LF or CR and don't scroll. Otherwise every row may change.
+    pub fn changed_rows(&self, bytes: &[u8]) -> Option<(u8, u8)>
+        ensures { IfSome result (λ rows. ChangesAtMost rows.0 rows.1 self.now bytes.now) }
+    {
+        if !self.reads_plainly() {
+            return None;
+        }
+        let state = self.state();
+        let grid = self.grid();
+        let size = grid.size();
+        let mut at = Place {
+            x: state.x,
+            y: state.y,
+            wrap: state.wrap,
+        };
+        for b in bytes {
+            match next_place(size.cols, state.bottom, at, *b) {
+                Some(next) => at = next,
+                None => return None,
+            }
+        }
+        Some((state.y, at.y))
+    }
+
+    // No text is pending, text is UTF-8, characters wrap, and a line feed stays in its column.
+    #[tactic(auto, using(crate::proofs::Printed::empty_is))]
+    fn reads_plainly(&self) -> bool
+        ensures text { result ≡ true → self.now.rest.text ≡ [] }
+        ensures decoding { result ≡ true → decodes (mode_of self.now.state) ≡ true }
+        ensures wraps { result ≡ true → self.now.state.state.autowrap ≡ true }
+        ensures straight { result ≡ true → self.now.state.state.newline ≡ false }
+    {
+        let mode = self.canvas.mode();
+        let state = self.state();
+        if !self.pending.is_empty() || !mode.utf8 || mode.display {
+            return false;
+        }
+        state.autowrap && !state.newline
+    }
+}

@@ -1,0 +1,64 @@
+//! The cursor's place after a byte that scrolls nothing.
+ghost use Rattle.std.specs.Prelude.{◌≡◌, IfSome};
+ghost use Rattle.vt_screen.specs.Touched.{Moves, after_cell};
+
+use vt_cells::columns_are_few;
+use vt_units::{controls_are_units, printables_are_characters};
+
+/// The cursor's column and row, and whether a wrap is pending.
+#[derive(Clone, Copy)]
+pub(crate) struct Place {
+    pub x: u8,
+    pub y: u8,
+    pub wrap: bool,
+}
+
+/// The place after a printable character of ASCII, BEL, BS, LF or CR. It isn't known after any other byte, nor
+/// if the region scrolls.
+pub(crate) fn next_place(cols: u8, bottom: u8, at: Place, b: u8) -> Option<Place>
+    ensures { IfSome result (Moves cols bottom b at) }
+{
+    columns_are_few();
+    printables_are_characters();
+    controls_are_units();
+    let is_above = at.y < bottom;
+    match b {
+        b' '..=b'~' if !at.wrap => Some(after_cell(cols, at)),
+        b' '..=b'~' if is_above => Some(after_cell(
+            cols,
+            Place {
+                x: 0,
+                y: at.y + 1,
+                wrap: false,
+            },
+        )),
+        0x07 => Some(at),
+        0x08 => Some(Place {
+            x: at.x.saturating_sub(1),
+            y: at.y,
+            wrap: false,
+        }),
+        b'\n' if is_above => Some(Place {
+            x: at.x,
+            y: at.y + 1,
+            wrap: false,
+        }),
+        b'\r' => Some(Place {
+            x: 0,
+            y: at.y,
+            wrap: false,
+        }),
+        _ => None,
+    }
+}
+
+fn after_cell(cols: u8, at: Place) -> Place
+    ensures { result ≡ after_cell cols at }
+{
+    let has_next = at.x < cols.saturating_sub(1);
+    Place {
+        x: if has_next { at.x + 1 } else { at.x },
+        y: at.y,
+        wrap: !has_next,
+    }
+}

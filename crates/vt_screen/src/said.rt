@@ -1,0 +1,57 @@
+ghost use Rattle.std.specs.Prelude.{◌≡◌, None, Some, is_none};
+
+use crate::Out;
+use std::marker::Model;
+
+/// The side effect of a unit, if it has one. Contracts see an `Option`; clearing it writes one byte.
+#[derive(Drop)]
+pub(crate) struct Said {
+    holds: bool,
+    out: Out,
+}
+
+impl Model for Said {
+    ghost use Rattle.std.specs.Prelude.{None, Option, Some, if◌then◌else◌};
+    ghost use Rattle.vt_screen.specs.declared.out.Out.{Out};
+
+    ghost Value = { Option Out };
+
+    ghost view = { λ s. if s.holds then Some s.out else None };
+}
+
+impl Said {
+    pub(crate) fn new() -> Said
+        ensures { result ≡ None }
+    {
+        Said {
+            holds: false,
+            out: Out::Bell,
+        }
+    }
+
+    #[inline(always)]
+    pub(crate) fn clear(&mut self)
+        ensures { self.new ≡ None }
+    {
+        self.holds = false;
+    }
+
+    pub(crate) fn set(&mut self, out: Out)
+        ensures { self.new ≡ Some out }
+    {
+        self.holds = true;
+        self.out = out;
+    }
+
+    pub(crate) fn is_none(&self) -> bool
+        ensures { result ≡ is_none self.now }
+    {
+        !self.holds
+    }
+
+    pub(crate) fn into_option(self) -> Option<Out>
+        ensures { result ≡ self }
+    {
+        if self.holds { Some(self.out) } else { None }
+    }
+}

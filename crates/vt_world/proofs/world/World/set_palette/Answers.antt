@@ -1,0 +1,12 @@
+use Rattle.std.proofs.Common.{ap, map, ◌∙◌}
+use Rattle.std.specs.Prelude.{is_some}
+use Rattle.vt_screen.specs.Tape.{palette}
+use Rattle.vt_world.proofs.Alters.{altered_alike}
+use Rattle.vt_world.proofs.Owners.{alike_world}
+use Rattle.vt_world.proofs.world.World.set_palette.Goals as goal
+
+pub invariant_of-self : goal.invariant_of-self
+invariant_of-self c =
+    alike_world
+    (ap (map is_some) c.set_palette.ensures ∙ altered_alike c.in_ok-c.c (palette c.in_ok-colours.colours) c.self.inside.terminals)
+    c.self.invariant
