@@ -1,5 +1,5 @@
 -- A pass after a call.
-use Rattle.std.proofs.Common.{◌≡◌, ℕ, Bool, false, List, [], ◌∷◌, ◌++◌, length, take, Option, Some, None, refl, sym, ap, ◌∙◌, subst, arith, length-append}
+use Rattle.std.proofs.Common.{◌≡◌, ℕ, false, List, [], ◌∷◌, ◌++◌, length, take, Option, Some, None, refl, sym, ap, ◌∙◌, subst, arith, length-append}
 use Rattle.std.proofs.Math.Seq.{get_or-append_seam}
 use Rattle.std.proofs.lemmas.Option.{none-some, slice_get-get_or}
 use Rattle.std.specs.Prelude.{slice_get}
@@ -9,11 +9,9 @@ use Rattle.vt_events.specs.Waits.{is_wait}
 use Rattle.vt_events.specs.declared.entry.Entry.{Entry}
 use Rattle.vt_events.specs.declared.event.Event.{Event}
 use Rattle.vt_events.specs.declared.event.Event.TheVariants.{WaitEnd}
-use Rattle.vt_events.specs.declared.reply.Reply.{Reply}
-use Rattle.vt_events.specs.declared.reply.Reply.TheVariants as reply
 use Rattle.vt_hub.specs.Answers.{Answers}
 use Rattle.vt_hub.proofs.Lists.{plain_waits, waits_more}
-use Rattle.vt_hub.specs.Histories.{awaits, waits_by}
+use Rattle.vt_hub.specs.Histories.{awaits}
 use Rattle.vt_hub.specs.Ready.{IsReady, is_told_to_wait}
 use Rattle.vt_hub.specs.Views.{PassView}
 use Rattle.vt_hub.specs.declared.answer.Answer.{Answer}
