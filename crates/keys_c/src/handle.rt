@@ -10,7 +10,7 @@ use std::mem;
 /// A keyboard as C holds it: a struct of one pointer, which is null or points to a keyboard that the handle owns.
 /// In contracts `value` is that keyboard, or `None`.
 #[repr(C)]
-pub(crate) struct KeysHandle {
+pub struct KeysHandle {
     at: *mut u8,
     alloc: Global,
     pub ghost value: { Option KeyboardView },

@@ -17,3 +17,5 @@ mod vt_key;
 mod vt_key_state;
 mod vt_modes;
 mod vt_text;
+
+pub use handle::KeysHandle;
