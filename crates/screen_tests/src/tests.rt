@@ -1,6 +1,7 @@
 //! Rows of the effect table. The expected rows are those of console_codes(4) and of this project's own rules,
 //! computed by hand.
 mod cells;
+mod changes;
 mod checks;
 mod columns;
 mod cursor;
