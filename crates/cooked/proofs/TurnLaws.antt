@@ -26,8 +26,7 @@ use Rattle.cooked.specs.Cooked.{Typing, make_typing}
 use Rattle.cooked.specs.Echo.{echo_of}
 use Rattle.cooked.specs.Fresh.{fresh}
 use Rattle.cooked.specs.Given.{items_after, items_of, line_in}
-use Rattle.cooked.specs.Turn.{Echoes, GoesOn, MetFull, Meets, ReadAnswer, ReadResult, Reads, ReadsByte, ReadsNone, Refused, Refuses, Turns, Writes, Wrote, stop_of}
-use Rattle.cooked.specs.declared.given.Given.TheVariants as answer
+use Rattle.cooked.specs.Turn.{Echoes, GoesOn, MetFull, Meets, ReadAnswer, ReadResult, Reads, ReadsByte, ReadsNone, Refuses, Turns, Writes, Wrote, stop_of}
 use Rattle.cooked.specs.declared.stop.Stop.{Stop}
 use Rattle.cooked.specs.declared.stop.Stop.TheVariants as stop
 use Rattle.cooked.specs.declared.termios.Termios.{Termios}

@@ -19,7 +19,7 @@ pub record AreSizes (sizes bytes : Text) : Type 0 where
   pub bytes_room : length bytes.bytes + bytes.room ≡ 4096
   pub sizes_room : length sizes.bytes + sizes.room ≡ 4096
 
--- these are the sizes before, and this one; or there are none, and it is 0
+-- the sizes are those before and then this one; if there are no sizes, none is before and this one is 0
 abbrev pub EndsBy : List ℕ → List ℕ → ℕ → Type 0
 EndsBy sizes before size =
     (sizes ≡ before ++ size ∷ []) ⊎ ((sizes ≡ []) × (before ≡ []) × (size ≡ 0))

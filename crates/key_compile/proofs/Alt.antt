@@ -1,11 +1,11 @@
 -- Tables with Alt that are filled code by code and table by table.
-use Rattle.std.proofs.Common.{◌≡◌, ◌≢◌, ℕ, ◌+◌, ◌-◌, ◌<◌, ◌≤◌, Bool, true, false, ◌==◌, ◌&&◌, cond, nat_le, nat_lt, Option, Some, None, unwrap_or, refl, sym, ap, ◌∙◌, inl, inr, arith, rules}
+use Rattle.std.proofs.Common.{◌≡◌, ◌≢◌, ℕ, ◌+◌, ◌-◌, ◌<◌, ◌≤◌, Bool, true, false, ◌==◌, ◌&&◌, cond, nat_lt, Option, None, unwrap_or, refl, sym, ap, ◌∙◌, arith, rules}
 use Rattle.std.proofs.lemmas.Bool.{and_parts, cases_lt, false≢true, le-leb, le-ltb, lt-leb, lt-ltb}
 use Rattle.std.proofs.lemmas.Bool.Decides.{eqb_tells}
 use Rattle.std.specs.Option.{option_map, option_or}
 use Rattle.key_syms.specs.Act.{Act}
 use Rattle.key_tables.specs.Tables.{Tables, entry_of}
-use Rattle.key_compile.specs.Metas.{is_keycode, meta_at, meta_of, metas_below}
+use Rattle.key_compile.specs.Metas.{meta_at, meta_of, metas_below}
 use Rattle.key_compile.specs.Puts.{Puts}
 use Rattle.key_compile.proofs.Steps.{kept, puts_join, puts_nothing, puts_same}
 

@@ -1,16 +1,15 @@
 -- The tables of lines have a table, and pairs of characters.
-use Rattle.std.proofs.Common.{◌≡◌, ℕ, suc, zero, ◌<◌, Bool, true, false, ◌==◌, ◌&&◌, ◌||◌, cond, None, is_some, IsTrue, All, List, [], ◌∷◌, ◌++◌, length, get_or, refl, sym, ap, ◌∙◌, subst, arith, rules}
+use Rattle.std.proofs.Common.{◌≡◌, ℕ, suc, ◌<◌, Bool, true, false, ◌||◌, cond, is_some, IsTrue, All, List, [], ◌∷◌, length, get_or, refl, sym, ap, ◌∙◌, arith, rules}
 use Rattle.std.proofs.lemmas.Bool.{and_from, and_parts, eqb-true, false≢true, or_left, or_right}
 use Rattle.std.proofs.lemmas.List.Elements.{All-head, All-tail}
 use Rattle.std.proofs.lemmas.List.Folds.{list_all-append, list_any_at}
-use Rattle.std.specs.List.{flat_map, list_all, list_any}
-use Rattle.key_syms.specs.declared.pair.Pair.{Pair}
-use Rattle.key_tables.specs.Tables.{Tables, exists_in}
+use Rattle.std.specs.List.{list_all, list_any}
+use Rattle.key_tables.specs.Tables.{Tables}
 use Rattle.key_text.specs.KeymapLine.{Telling, KeymapLine, alt_is_meta, compose, is_fit, is_real, keymaps, keys, one, string, usual_pairs, usual_strings}
 use Rattle.key_compile.specs.Compiled.{AreTablesOf}
-use Rattle.key_compile.specs.Dumpable.{AreFit, CompiledAreDumpable, is_dumpable}
+use Rattle.key_compile.specs.Dumpable.{AreFit, CompiledAreDumpable}
 use Rattle.key_compile.specs.Pairs.{pairs_by, pairs_in, usual}
-use Rattle.key_compile.specs.Union.{in_union, is_declared, is_keymaps, is_usual_table, modifies_table, names_table}
+use Rattle.key_compile.specs.Union.{in_union, is_declared, is_keymaps, is_usual_table, names_table}
 
 -- a table that a test names
 abbrev pub SomeTable : (ℕ → Bool) → Type 0

@@ -1,5 +1,5 @@
 -- Entries that are set one by one.
-use Rattle.std.proofs.Common.{◌≡◌, ℕ, ◌+◌, ◌<◌, Bool, true, false, ◌==◌, ◌&&◌, ◌||◌, cond, Option, Some, None, is_some, IsSome, unwrap_or, List, [], ◌∷◌, ◌++◌, length, get_or, take, refl, sym, ap, ◌∙◌, subst, inl, inr, arith, rules}
+use Rattle.std.proofs.Common.{◌≡◌, ℕ, ◌+◌, ◌<◌, Bool, true, false, ◌==◌, ◌&&◌, ◌||◌, cond, Option, Some, None, is_some, IsSome, unwrap_or, List, [], ◌∷◌, ◌++◌, length, get_or, take, refl, sym, ap, ◌∙◌, inl, inr, arith, rules}
 use Rattle.std.proofs.lemmas.Bool.{eq-eqb, false≢true}
 use Rattle.std.proofs.lemmas.Bool.Decides.{eqb_tells}
 use Rattle.std.proofs.lemmas.List.{length-take, take_more}
@@ -7,7 +7,7 @@ use Rattle.std.proofs.lemmas.List.Folds.{list_any_at, list_any_more}
 use Rattle.std.specs.List.{list_any}
 use Rattle.std.specs.Option.{option_map, option_or}
 use Rattle.key_syms.specs.Act.{Act}
-use Rattle.key_tables.specs.Tables.{Tables, entry_of, exists_in, map_of, with_entry}
+use Rattle.key_tables.specs.Tables.{Tables, entry_of, exists_in, with_entry}
 use Rattle.key_text.specs.KeymapLine.{Telling, KeymapLine}
 use Rattle.key_compile.specs.Entries.{by_symbols, last_action, everywhere, gives, action_of_table}
 use Rattle.key_compile.specs.Existing.{HasOwnTable, HasTables}

@@ -1,11 +1,11 @@
 -- Strings that are set one by one.
-use Rattle.std.proofs.Common.{◌≡◌, ℕ, ◌+◌, ◌<◌, ◌≤◌, cond, nat_lt, Option, Some, None, unwrap_or, List, [], ◌∷◌, ◌++◌, length, get_or, take, refl, sym, ap, subst, ◌∙◌, inl, inr, arith, rules}
+use Rattle.std.proofs.Common.{◌≡◌, ℕ, ◌+◌, ◌<◌, ◌≤◌, cond, nat_lt, Option, None, List, [], ◌∷◌, ◌++◌, length, get_or, take, refl, sym, ap, subst, ◌∙◌, arith, rules}
 use Rattle.std.proofs.lemmas.Bool.{cases_lt, le-ltb, lt-ltb}
 use Rattle.std.proofs.lemmas.List.{get_or-map, get_or_past, take_more}
 use Rattle.std.specs.Fmt.{digits}
 use Rattle.std.specs.List.{slice_index_or}
 use Rattle.std.specs.Option.{option_or}
-use Rattle.key_tables.specs.Tables.{Tables, func_of}
+use Rattle.key_tables.specs.Tables.{Tables}
 use Rattle.key_text.specs.KeymapLine.{KeymapLine}
 use Rattle.key_compile.specs.Pairs.{usual}
 use Rattle.key_compile.specs.Puts.{PutsTexts}

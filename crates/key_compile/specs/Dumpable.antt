@@ -1,5 +1,5 @@
 -- The tables that can be written as a keymap text.
-use Rattle.std.specs.Prelude.{◌≡◌, Bool, ◌&&◌, is_some, IsTrue, List, All}
+use Rattle.std.specs.Prelude.{Bool, ◌&&◌, is_some, IsTrue, List, All}
 use Rattle.std.specs.List.{list_all, list_any}
 use Rattle.key_tables.specs.Tables.{Tables}
 use Rattle.key_text.specs.KeymapLine.{KeymapLine, is_fit, is_real}

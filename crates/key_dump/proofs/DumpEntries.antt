@@ -1,11 +1,11 @@
 -- The entries, strings and pairs of the lines of a dump.
-use Rattle.std.proofs.Common.{◌≡◌, ◌≢◌, ℕ, ◌-◌, ◌<◌, Bool, true, false, ◌==◌, ◌&&◌, leb, ltb, cond, Option, Some, None, is_some, unwrap_or, IfSome, IsTrue, inl, inr, List, [], ◌∷◌, ◌++◌, length, get_or, map, refl, sym, ap, ◌∙◌, arith, rules}
+use Rattle.std.proofs.Common.{◌≡◌, ◌≢◌, ℕ, ◌-◌, ◌<◌, Bool, true, false, ◌==◌, ◌&&◌, leb, ltb, cond, Option, Some, None, is_some, unwrap_or, IsTrue, inl, inr, List, [], ◌∷◌, ◌++◌, length, get_or, map, refl, sym, ap, ◌∙◌, arith, rules}
 use Rattle.std.proofs.Math.ListN.{get_or-eq_default}
 use Rattle.std.proofs.lemmas.Bool.{and_from, and_left, and_right, cases_lt, eq-eqb, eqb-true, false≢true, ne_eqb}
 use Rattle.std.proofs.lemmas.Bool.Decides.{eqb_tells}
 use Rattle.std.specs.List.{flat_map, list_any}
-use Rattle.std.specs.Option.{option_map, option_or}
-use Rattle.key_syms.specs.Act.{Act, act, is_action}
+use Rattle.std.specs.Option.{option_or}
+use Rattle.key_syms.specs.Act.{Act, is_action}
 use Rattle.key_syms.specs.Kinds.{HOLE}
 use Rattle.key_syms.specs.declared.pair.Pair.{Pair}
 use Rattle.key_tables.specs.Tables.{IsMap, Tables, entry_of, exists_in, func_of, hole, map_of}

@@ -1,5 +1,5 @@
 -- The rows of a dump are read as its lines.
-use Rattle.std.proofs.Common.{◌≡◌, ℕ, suc, ◌+◌, ◌<◌, ◌≤◌, Bool, true, false, ◌==◌, ◌||◌, ltb, cond, Option, Some, None, is_some, IfSome, IsTrue, inl, inr, List, [], ◌∷◌, ◌++◌, codes, decimal, filter, length, get_or, map, refl, sym, ap, ◌∙◌, arith, rules}
+use Rattle.std.proofs.Common.{◌≡◌, ℕ, suc, ◌+◌, ◌<◌, ◌≤◌, Bool, true, false, ◌==◌, ◌||◌, ltb, cond, Option, Some, None, is_some, IfSome, IsTrue, List, [], ◌∷◌, ◌++◌, codes, decimal, filter, length, get_or, map, refl, sym, ap, ◌∙◌, arith, rules}
 use Rattle.std.proofs.lemmas.Bool.{and_from, and_parts, cases_eq, false≢true}
 use Rattle.std.proofs.lemmas.List.Folds.{list_any_at}
 use Rattle.std.proofs.lemmas.List.FromFn.{get_or-range_with_len, length-range_with_len}
@@ -12,7 +12,7 @@ use Rattle.key_tables.specs.Tables.{IsMap, IsWhole, Tables, exists_in, hole}
 use Rattle.key_text.specs.Lines.{table_marks}
 use Rattle.key_text.specs.KeymapLine.{Telling, compose, is_real, keymaps, one, string}
 use Rattle.key_compile.specs.Dumpable.{is_dumpable}
-use Rattle.key_dump.specs.Dump.{dump_rows, entry_rows, entry_words, pair_words, rows_from, string_rows, table_numbers, table_rows}
+use Rattle.key_dump.specs.Dump.{dump_rows, entry_rows, pair_words, rows_from, string_rows, table_numbers, table_rows}
 use Rattle.key_dump.proofs.EntryLines.{entry_says}
 use Rattle.key_dump.proofs.KeymapsLine.{are_small, keymaps_says, only}
 use Rattle.key_dump.proofs.PairLines.{pair_says}

@@ -1,11 +1,10 @@
 -- The tables of the lines of a dump.
-use Rattle.std.proofs.Common.{◌≡◌, ℕ, ◌+◌, ◌<◌, Bool, true, false, ◌==◌, ◌&&◌, ◌||◌, leb, cond, Option, Some, None, is_some, List, [], ◌∷◌, ◌++◌, filter, get_or, map, refl, sym, ap, ◌∙◌, arith, rules}
+use Rattle.std.proofs.Common.{◌≡◌, ℕ, ◌+◌, ◌<◌, Bool, true, false, ◌&&◌, ◌||◌, leb, cond, Option, Some, None, is_some, List, [], ◌∷◌, ◌++◌, filter, get_or, map, refl, sym, ap, ◌∙◌, arith, rules}
 use Rattle.std.proofs.lemmas.Bool.{and_from, and_left, and_parts, and_right, false≢true, le-leb, leb-true, ne_eqb, or_from}
 use Rattle.std.proofs.lemmas.List.Folds.{list_any-append, list_any_at}
 use Rattle.std.proofs.lemmas.List.FromFn.{get_or-map-range_with_len, get_or-range_with_len, length-range_with_len}
 use Rattle.std.specs.List.{list_any, range_with_len}
 use Rattle.key_syms.specs.Act.{Act}
-use Rattle.key_syms.specs.Kinds.{HOLE}
 use Rattle.key_syms.specs.declared.pair.Pair.{Pair}
 use Rattle.key_tables.specs.Tables.{IsWhole, Tables, exists_in, hole}
 use Rattle.key_text.specs.Lines.{covers, table_marks}

@@ -10,7 +10,7 @@ use Rattle.key_syms.specs.Names.{name_text}
 use Rattle.key_text.specs.Fault.{fault, ◌>>=◌}
 use Rattle.key_text.specs.FaultKinds.{UNKNOWN_WORD}
 use Rattle.key_text.specs.Fields.{code_at, end_of_line, keyword_at, symbol_at}
-use Rattle.key_text.specs.Lines.{alt_is_meta_line, charset_line, compose_line, include_line, keymaps_line, keys_line, modified_by, modified_line, modifiers_at, modifiers_by, string_line, tells, usual_strings_line, weight_of}
+use Rattle.key_text.specs.Lines.{modified_by, modified_line, modifiers_at, modifiers_by, tells, weight_of}
 use Rattle.key_text.specs.KeymapLine.{one}
 use Rattle.key_text.specs.Words.{bytes, next, spot}
 use Rattle.key_text.specs.declared.placed.Place.{Place}

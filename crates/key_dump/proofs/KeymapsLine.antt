@@ -8,7 +8,7 @@ use Rattle.std.specs.List.{join_with_byte, list_all}
 use Rattle.key_text.specs.Fault.{◌>>=◌}
 use Rattle.key_text.specs.FaultKinds.{UNKNOWN_WORD}
 use Rattle.key_text.specs.Fields.{end_of_line}
-use Rattle.key_text.specs.Lines.{before, comma, dash, in_order, keymaps_line, table_marks, pieces, range_by, range_of, ranges_of, table_of, tables_in, tells, with_byte}
+use Rattle.key_text.specs.Lines.{before, comma, dash, in_order, keymaps_line, table_marks, pieces, range_by, range_of, ranges_of, table_of, tables_in, tells}
 use Rattle.key_text.specs.KeymapLine.{keymaps}
 use Rattle.key_text.specs.Words.{bytes, next}
 use Rattle.key_text.specs.declared.keymaps_line.TableRange.{TableRange}

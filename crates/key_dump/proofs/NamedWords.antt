@@ -1,11 +1,10 @@
 -- Names, code points and numbers are words.
-use Rattle.std.proofs.Common.{◌≡◌, ℕ, ◌/◌, ◌%◌, ◌<◌, Bool, true, false, ◌==◌, ◌&&◌, leb, cond, Option, Some, None, List, [], ◌∷◌, ◌++◌, codes, decimal, find, unwrap_or, refl, ap, arith, rules}
+use Rattle.std.proofs.Common.{◌≡◌, ℕ, ◌<◌, Bool, true, false, ◌==◌, ◌&&◌, leb, cond, Option, Some, None, List, [], ◌∷◌, codes, decimal, find, unwrap_or, refl, ap, rules}
 use Rattle.std.proofs.lemmas.Bool.{agree_below, agree_below_at, and_from, and_parts, eqb-true}
 use Rattle.std.specs.Fmt.{digits}
 use Rattle.std.specs.List.{list_all}
 use Rattle.std.specs.Option.{option_map}
 use Rattle.key_syms.specs.Act.{Act}
-use Rattle.key_syms.specs.Kinds.{LETTER}
 use Rattle.key_syms.specs.Names.{code_name, hex4, hex_digit, name_text, same_act}
 use Rattle.key_syms.specs.Numbers.{number_of}
 use Rattle.key_syms.specs.Symbols.{Symbol, symbols}

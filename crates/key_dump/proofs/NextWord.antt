@@ -1,5 +1,5 @@
 -- The next word of a row, by the row's bytes.
-use Rattle.std.proofs.Common.{◌≡◌, ◌≢◌, ℕ, zero, suc, ◌+◌, ◌≤◌, Bool, true, false, ◌==◌, ◌&&◌, not, leb, cond, Option, Some, None, Ok, Err, List, [], ◌∷◌, ◌++◌, drop, length, take, refl, sym, ap, ◌∙◌, subst, arith, rules}
+use Rattle.std.proofs.Common.{◌≡◌, ◌≢◌, ℕ, zero, suc, ◌+◌, ◌≤◌, Bool, true, false, ◌==◌, ◌&&◌, not, leb, cond, Option, Some, Ok, List, [], ◌∷◌, ◌++◌, drop, length, take, refl, sym, ap, ◌∙◌, arith, rules}
 use Rattle.std.proofs.Math.Seq.{drop-append_seam, take-append_seam}
 use Rattle.std.proofs.lemmas.Bool.{and_from, and_parts, eq-eqb, eqb-true, leb-true, ne_eqb}
 use Rattle.std.proofs.lemmas.Bool.Decides.{nat_tests}
@@ -8,9 +8,7 @@ use Rattle.std.proofs.lemmas.Str.{IsUtf8-from_ascii, utf8_valid_len-IsUtf8}
 use Rattle.std.specs.List.{list_all, prefix_len}
 use Rattle.std.specs.Str.{IsAscii}
 use Rattle.std.specs.Str.Lossy.{utf8_valid_len}
-use Rattle.key_text.specs.Fault.{fault}
-use Rattle.key_text.specs.FaultKinds.{BAD_TEXT}
-use Rattle.key_text.specs.Words.{bytes, is_bare, is_blank, is_quote, nth_place, quoted_len, whole, word_at, word_in, word_len}
+use Rattle.key_text.specs.Words.{bytes, is_bare, is_blank, is_quote, quoted_len, whole, word_at, word_in, word_len}
 use Rattle.key_text.specs.declared.placed.Placed.{Placed}
 
 -- a byte of ASCII that is seen, or a blank

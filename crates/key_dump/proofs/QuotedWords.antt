@@ -5,11 +5,10 @@ use Rattle.std.proofs.lemmas.Bool.{agree_below, agree_below_at, and_from, and_pa
 use Rattle.std.proofs.lemmas.List.{drop-map}
 use Rattle.std.proofs.lemmas.List.Elements.{All-head, All-tail}
 use Rattle.std.specs.List.{flat_map, list_all, prefix_len}
-use Rattle.std.specs.Option.{option_and_then, option_map, option_map_or}
-use Rattle.key_text.specs.Quoted.{before_rest, text_between, text_before_quote, escape_in, first_of, is_octal, letter_escape, octal_len, octal_value, text_of, unescaped_bytes, unescaped_whole}
-use Rattle.key_text.specs.Quoted as quoted_texts
+use Rattle.std.specs.Option.{option_and_then, option_map}
+use Rattle.key_text.specs.Quoted.{before_rest, escape_in, is_octal, octal_value, text_of, unescaped_bytes}
 use Rattle.key_text.specs.Rows.{backslash}
-use Rattle.key_text.specs.Words.{bytes, close_at, is_bare, is_quote, quoted_len, word_at, word_in, word_len}
+use Rattle.key_text.specs.Words.{bytes, close_at, is_bare, quoted_len, word_at, word_in, word_len}
 use Rattle.key_text.specs.declared.placed.Placed.{Placed}
 use Rattle.key_dump.specs.Dump.{escape_of, is_plain, octal_escape, quoted_text}
 use Rattle.key_dump.proofs.NextWord.{WordIs, bare_none, is_behind, is_seen, length-bytes, prefix_len-bytes, seen_ascii, word_at_behind, word_in_is}

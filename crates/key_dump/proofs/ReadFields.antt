@@ -12,7 +12,7 @@ use Rattle.key_text.specs.Fault.{fault, ◌>>=◌}
 use Rattle.key_text.specs.FaultKinds.{OUT_OF_RANGE, UNKNOWN_SYMBOL, UNKNOWN_WORD, WRONG_COUNT}
 use Rattle.key_text.specs.Fields.{action_of, character_at, character_by, character_in, code_at, end_of_line, function_at, function_by, good, is_quoted, keyword_at, symbol_action, named_character, number_in_range, real, symbol_at}
 use Rattle.key_text.specs.Quoted.{character_of}
-use Rattle.key_text.specs.Words.{bytes, is_quote, is_word, next, spot, required_word, word_at}
+use Rattle.key_text.specs.Words.{bytes, is_quote, next, spot, required_word, word_at}
 use Rattle.key_text.specs.declared.fault.KeyFault.{KeyFault}
 use Rattle.key_text.specs.declared.placed.Place.{Place}
 use Rattle.key_text.specs.declared.placed.Placed.{Placed}

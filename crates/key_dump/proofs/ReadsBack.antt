@@ -1,13 +1,12 @@
 -- A dump is read as the tables that it was made of.
-use Rattle.std.proofs.Common.{◌≡◌, false, cond, None, Some, List, ◌++◌, length, map, refl, sym, ap, ◌∙◌, subst, arith, rules}
+use Rattle.std.proofs.Common.{◌≡◌, cond, None, Some, List, sym, ap, ◌∙◌, arith, rules}
 use Rattle.key_syms.specs.Laws.{CodePointsAreTheirOwn, NamesAreTheirOwn}
 use Rattle.key_tables.specs.Tables.{Tables}
-use Rattle.key_text.specs.KeymapLine.{KeymapLine, compose}
+use Rattle.key_text.specs.KeymapLine.{KeymapLine}
 use Rattle.key_compile.specs.Compiled.{AreTablesOf}
 use Rattle.key_compile.specs.Entries.{entry_in}
 use Rattle.key_compile.specs.Faults.{compile_fault}
-use Rattle.key_compile.specs.Union.{union_of}
-use Rattle.key_dump.specs.Dump.{dump_rows, rows_from}
+use Rattle.key_dump.specs.Dump.{dump_rows}
 use Rattle.key_dump.specs.ReadsBack.{DumpReadsBack}
 use Rattle.key_dump.proofs.DumpEntries.{entries_are, pairs_are, strings_are}
 use Rattle.key_dump.proofs.DumpFaults.{faultless, first_none, is_loud, pairs_few, quiet_first}

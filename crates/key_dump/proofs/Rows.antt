@@ -1,12 +1,12 @@
 -- The rows of a dump as texts of parts.
-use Rattle.std.proofs.Common.{◌≡◌, ℕ, ◌/◌, ◌%◌, true, false, ◌==◌, cond, List, [], ◌∷◌, ◌++◌, codes, decimal, map, append_assoc, append-nil, refl, sym, ap, ◌∙◌, arith}
+use Rattle.std.proofs.Common.{◌≡◌, ℕ, ◌/◌, ◌%◌, false, ◌==◌, cond, List, [], ◌++◌, codes, decimal, map, append_assoc, append-nil, sym, ap, ◌∙◌, arith}
 use Rattle.std.specs.List.{flat_map}
 use Rattle.key_syms.specs.Act.{Act, act}
 use Rattle.key_syms.specs.Names.{name_text}
 use Rattle.key_syms.specs.declared.pair.Pair.{Pair}
 use Rattle.key_tables.specs.Tables.{Tables}
 use Rattle.key_syms.specs.Kinds.{FUNCTION}
-use Rattle.key_dump.specs.Dump.{dump_of, dump_rows, entry_words, escape_of, keymaps_words, modifier_words, modifiers, pair_words, quoted_text, row_text, rows_from, string_rows, string_words, table_rows}
+use Rattle.key_dump.specs.Dump.{dump_of, dump_rows, entry_words, escape_of, keymaps_words, modifier_words, modifiers, pair_words, row_text, rows_from, string_rows, string_words, table_rows}
 use Rattle.key_dump.specs.Spaced.{blank_after_each}
 use Rattle.std.proofs.lemmas.Grind.{flat_map-append}
 use Rattle.key_dump.proofs.Adding.{join_blank_after_each, blank_after_each_each}

@@ -4,7 +4,7 @@ use Rattle.std.proofs.lemmas.Bool.{and_from, and_left, and_parts, and_right, leb
 use Rattle.std.specs.List.{flat_map, join_with_byte}
 use Rattle.key_text.specs.Fault.{◌>>=◌}
 use Rattle.key_text.specs.Lines.{tells, said_from}
-use Rattle.key_text.specs.Reading.{Deeper, Got, at_outer_include, got_from_row, make_got, lines_of, most_deep, read_row, read_row_by, read_rows, start, with_lines, within}
+use Rattle.key_text.specs.Reading.{Deeper, Got, make_got, lines_of, most_deep, read_row, read_rows, start, within}
 use Rattle.key_text.specs.Rows.{Row, after, backslash, begins_end, begins_lf, carriage_return, join_continuations, line_feed, next_line, place_of, with_places, put_at, row_of, rows, rows_of, with_item}
 use Rattle.key_text.specs.KeymapLine.{Telling, KeymapLine}
 use Rattle.key_text.specs.View.{keymap_line}

@@ -5,7 +5,7 @@ use Rattle.std.specs.Option.{option_map, option_or}
 use Rattle.std.proofs.lemmas.Bool.{and_parts, cases_Bool, cases_order, eqb-true, false≢true}
 use Rattle.std.proofs.lemmas.List.Folds.{find-append}
 use Rattle.key_machine.proofs.Places.{both_other, both_same, first_after, first_before, second_after, second_before}
-use Rattle.key_machine.specs.Keys.{Down, Keys, State, down_as, is_before, is_key, recorded_action, weight_of, with_key, without_key, without_keyboard}
+use Rattle.key_machine.specs.Keys.{Down, Keys, State, down_as, is_before, is_key, recorded_action, with_key, without_key, without_keyboard}
 use Rattle.key_machine.specs.Histories.{looked_up}
 use Rattle.key_machine.specs.Laws.{KeysFollow, RecordsStay, UnplugTakes}
 use Rattle.key_machine.specs.Step.{Step, action_step, acting_press_step, press_step, release_step, special}

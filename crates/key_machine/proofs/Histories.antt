@@ -1,5 +1,5 @@
 -- Histories of a keyboard, event by event.
-use Rattle.std.proofs.Common.{◌≡◌, ◌≢◌, ℕ, ◌==◌, ◌&&◌, Bool, true, false, cond, List, [], ◌∷◌, Option, Some, None, is_some, refl, sym, ap, ◌∙◌, ⊎_elim, arith, rules}
+use Rattle.std.proofs.Common.{◌≡◌, ◌≢◌, ℕ, ◌==◌, ◌&&◌, Bool, true, false, cond, List, [], ◌∷◌, Option, Some, None, is_some, refl, sym, ap, ◌∙◌, arith, rules}
 use Rattle.std.proofs.lemmas.Bool.{cases_Bool, false≢true}
 use Rattle.key_machine.proofs.Places.{apart, both_same}
 use Rattle.key_machine.proofs.Following.{fresh_down, keys_follow, recorded_action-with_key, recorded_action-without_key, recorded_action-without_keyboard, release_step_down}

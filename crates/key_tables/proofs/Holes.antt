@@ -9,9 +9,8 @@ use Rattle.std.specs.List.{list_any, slice_index_or}
 use Rattle.std.specs.Option.{option_map}
 use Rattle.key_syms.specs.Act.{Act, is_action}
 use Rattle.key_syms.specs.declared.pair.Pair.{Pair}
-use Rattle.key_tables.specs.Kept.{AreKept, maps_at}
+use Rattle.key_tables.specs.Kept.{AreKept}
 use Rattle.key_tables.specs.Tables.{AreHoles, AreMaps, IsEmpty, IsMap, IsWhole, hole, tables_of}
-use Rattle.key_tables.proofs.Places.{kept_at, kept_maps, map_at}
 
 holes_at : (c : ℕ) → slice_index_or (replicate 256 hole) c hole ≡ hole
 holes_at c = elim (cases_lt c 256) [

@@ -1,6 +1,5 @@
 -- A text that grows by the texts of items, one after another.
-use Rattle.std.proofs.Common.{◌≡◌, ℕ, zero, suc, ◌+◌, ◌<◌, Bool, cond, Option, Some, None, is_some, List, [], ◌∷◌, ◌++◌, length, get_or, take, refl, sym, ap, ◌∙◌, append_assoc, append-nil, arith}
-use Rattle.std.specs.List.{flat_map}
+use Rattle.std.proofs.Common.{◌≡◌, ℕ, zero, suc, ◌+◌, ◌<◌, Bool, cond, Option, Some, None, is_some, List, [], ◌∷◌, ◌++◌, length, get_or, take, sym, ap, ◌∙◌, append_assoc, append-nil, arith}
 use Rattle.std.specs.Option.{unwrap_or}
 use Rattle.key_syms.specs.Act.{Act}
 use Rattle.key_tables.specs.Listing.{entry_text, map_text, number_text, table_text, texts_from}

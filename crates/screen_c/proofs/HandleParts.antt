@@ -1,6 +1,5 @@
 -- A handle by value: its pointer and its allocator, with what they own. Assumes `Logic`.
 use Rattle.std.proofs.Common.{◌≡◌, List, [], ◌∷◌, ◌++◌, refl, subst, lit<}
-use denote.Builtin.{RawPtr}
 use denote.Param.{layout}
 use denote.RattleType.{RattleType, Valss}
 use denote.RawPtr.{Ptr, block_ptr, null_ptr, ptr_val}

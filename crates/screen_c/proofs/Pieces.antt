@@ -1,7 +1,7 @@
 -- A text that is run piece by piece, and the places of what it says.
 use Rattle.screen_c.specs.Shown.{c_out}
 use Rattle.screen_c.specs.declared.vt_out.VtOut.{VtOut}
-use Rattle.std.proofs.Common.{◌≡◌, ℕ, ◌+◌, ◌-◌, ◌<◌, ◌≤◌, List, [], ◌∷◌, ◌++◌, add-one, get_or, set, length, map, take, drop, refl, sym, ap, ◌∙◌, arith, length-drop, append_assoc}
+use Rattle.std.proofs.Common.{◌≡◌, ℕ, ◌+◌, ◌-◌, ◌<◌, ◌≤◌, List, [], ◌∷◌, ◌++◌, add-one, get_or, set, length, map, take, drop, sym, ap, ◌∙◌, arith, length-drop, append_assoc}
 use Rattle.std.proofs.Math.Seq.{take-add, take-append_seam, drop-append-add, set_split}
 use Rattle.std.proofs.lemmas.List.{drop-drop, length-append, length-map, map-append, take_all}
 use Rattle.vt_screen.specs.Run.{AnyCut, after, outs_of_run}

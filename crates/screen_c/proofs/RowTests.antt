@@ -1,5 +1,4 @@
 -- The test of two rows, cell by cell.
-use Rattle.screen_c.specs.Marks.{is_as_marked, is_same_size}
 use Rattle.std.proofs.Common.{◌≡◌, ◌↔◌, ◌==◌, ◌&&◌, Bool, true, false, List, [], ◌∷◌, refl, sym, ap, ◌∙◌}
 use Rattle.std.proofs.lemmas.Bool.{and_from, and_parts, eq-eqb, eqb-true, false≢true}
 use Rattle.std.specs.Prelude.{IsTrue}

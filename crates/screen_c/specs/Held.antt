@@ -1,7 +1,6 @@
 -- The value that a handle owns, and the values that calls make of it.
-use Rattle.std.specs.Prelude.{◌≡◌, ℕ, Bool, true, nat_eq, ◌&&◌, not, List, map, Option, Some, None}
-use Rattle.std.specs.List.{range_with_len}
-use Rattle.vt_grid.specs.Grid.{GridView, row_at}
+use Rattle.std.specs.Prelude.{ℕ, Option, Some, None}
+use Rattle.vt_grid.specs.Grid.{GridView}
 use Rattle.vt_screen.specs.Run.{start}
 use Rattle.vt_screen.specs.Screen.{Screen}
 use Rattle.vt_units.specs.Run.{Reached}

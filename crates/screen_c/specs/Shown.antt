@@ -1,5 +1,5 @@
 -- A cell, a colour, the state and an out as C gets them.
-use Rattle.std.specs.Prelude.{ℕ, ◌-◌, Bool, true, false, List, [], ◌++◌, length, replicate}
+use Rattle.std.specs.Prelude.{ℕ, ◌-◌, Bool, true, false, ◌++◌, length, replicate}
 use Rattle.screen_c.specs.declared.vt_cell.VtCell.{VtCell}
 use Rattle.screen_c.specs.declared.vt_colour.VtColour.{VtColour}
 use Rattle.screen_c.specs.declared.vt_out.VtOut.{VtOut}

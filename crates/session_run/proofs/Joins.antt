@@ -10,7 +10,7 @@ use Rattle.std.specs.Prelude.{slice_get}
 use Rattle.atomic_table.specs.Seated.{TableId}
 use Rattle.session_run.proofs.HavePrograms.{caller_known}
 use Rattle.session_run.specs.Callers.{callers_in, has_program}
-use Rattle.session_run.specs.Racing.{AreFresh, AreHome, HasRun, IsFresh, IsSplit}
+use Rattle.session_run.specs.Racing.{AreFresh, AreHome, IsAfterWorker, IsFresh, IsSplit}
 use Rattle.session_text.specs.declared.program.Program.{Program}
 use Rattle.vt_hub.specs.Views.{PassView, StewardView, is_made, new_pass, view_at_open, with_pass}
 use Rattle.vt_hub.specs.declared.pass_place.PassPlace.{PassPlace}
@@ -82,12 +82,12 @@ at_either q joined (suc k) x is = inr (k, is)
 pub home_more : (programs : List Program) (here : TableId) (callers : List ℕ) (n : ℕ) (s t : StewardView) (q : PassView)
     → callers ≡ callers_in programs → n < length callers
     → t.hub ≡ s.hub → t.stands ≡ set s.stands q.number Home → t.joined ≡ q ∷ s.joined
-    → HasRun programs here (get_or callers n 0) q → AreHome programs here n s
+    → IsAfterWorker programs here (get_or callers n 0) q → AreHome programs here n s
     → AreHome programs here (n + 1) t
 home_more programs here callers n s t q same inside hub stands joined given home =
     let all : List ℕ = callers_in programs in
-    let run : HasRun programs here (get_or all n 0) q =
-    subst (λ cs. HasRun programs here (get_or cs n 0) q) same given in
+    let run : IsAfterWorker programs here (get_or all n 0) q =
+    subst (λ cs. IsAfterWorker programs here (get_or cs n 0) q) same given in
     let known = caller_known programs n (subst (λ cs. n < length cs) same inside) in
     record {
       own = hub ∙ home.own;
@@ -109,7 +109,7 @@ home_more programs here callers n s t q same inside hub stands joined given home
       ran = λ place x is. ⊎_elim
           (λ mine.
           let number : x.number ≡ get_or all n 0 = ap (λ (p : PassView). p.number) (sym mine) ∙ run.numbered in
-          (ap (has_program programs) number ∙ known.0, subst (λ m. HasRun programs here m x) (sym number) (subst (HasRun programs here (get_or all n 0)) mine run)))
+          (ap (has_program programs) number ∙ known.0, subst (λ m. IsAfterWorker programs here m x) (sym number) (subst (IsAfterWorker programs here (get_or all n 0)) mine run)))
           (λ old. home.ran old.0 x old.1)
           (at_either q s.joined place x (sym (ap (λ (list : List PassView). slice_get list place) joined) ∙ is));
       each = λ i low. ⊎_elim

@@ -44,7 +44,7 @@ pub record IsSplit (here : TableId) (callers : List ℕ) (n : ℕ) (s : StewardV
   pub none_home : s.joined ≡ []
 
 -- the pass of caller n after the worker of that caller's program
-pub record HasRun (programs : List Program) (here : TableId) (n : ℕ) (q : PassView) : Type 0 where
+pub record IsAfterWorker (programs : List Program) (here : TableId) (n : ℕ) (q : PassView) : Type 0 where
   pub own : q.hub ≡ here
   pub numbered : q.number ≡ n
   pub works : (program : Program) → program_of programs n ≡ Some program → Works program q
@@ -59,7 +59,7 @@ pub record AreHome (programs : List Program) (here : TableId) (n : ℕ) (s : Ste
       → stand_at s.stands k ≡ Unmade
   pub ran :
       (place : ℕ) (x : PassView) → slice_get s.joined place ≡ Some x
-      → (has_program programs x.number ≡ true) × HasRun programs here x.number x
+      → (has_program programs x.number ≡ true) × IsAfterWorker programs here x.number x
   pub each :
       (i : ℕ) → i < n
       → (place : ℕ) × (x : PassView) × (slice_get s.joined place ≡ Some x)

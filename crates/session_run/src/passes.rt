@@ -3,7 +3,7 @@ ghost use Rattle.std.specs.Prelude.{◌≡◌, ℕ, ◌<◌, [], None, length, v
 ghost use Rattle.std.specs.List.Sorted.{IsStrictlyIncreasing};
 ghost use Rattle.std.specs.Thread.{IsSync};
 ghost use Rattle.session_run.specs.Callers.{AreHooked, callers_in};
-ghost use Rattle.session_run.specs.Racing.{AreFresh, AreHome, HasRun, IsSplit};
+ghost use Rattle.session_run.specs.Racing.{AreFresh, AreHome, IsAfterWorker, IsSplit};
 
 use crate::pace::Pace;
 use crate::worker::work;
@@ -57,7 +57,7 @@ pub(crate) fn work_all<
     ensures len { IfOk result (λ ran. vec_len ran ≡ length callers.now) }
     ensures ran { IfOk result (λ ran. (i : ℕ) (d : _) → i < length callers.now
         → IfOk (slice_index_or ran.items i d)
-        (λ q. HasRun programs.now seat.now (slice_index_or callers.now i 0) q)) }
+        (λ q. IsAfterWorker programs.now seat.now (slice_index_or callers.now i 0) q)) }
 {
     // Each of these callers has a program, so each worker begins and ends at this pace.
     let pace = Pace::of(callers.len());
@@ -66,7 +66,7 @@ pub(crate) fn work_all<
         requires { IsSync R.row × IsSync G.row
             × (pass.hub ≡ seat.now) × (pass.mine ≡ []) × (pass.stop ≡ None)
             × AreHooked programs.now hooks.now }
-        ensures { IfOk result (λ q. HasRun programs.entry.now seat.entry.now pass.number q) }
+        ensures { IfOk result (λ q. IsAfterWorker programs.entry.now seat.entry.now pass.number q) }
     { work_one(seat, pass, programs, hooks, gate, pace) };
     Ok(thread::map_vec(seat.rt, passes, &run)?)
 }
@@ -83,7 +83,7 @@ fn work_one<J: Opening, H: Handler, G: Gate, R: Wait>(
     requires own { pass.hub ≡ seat.now }
     requires fresh { (pass.mine ≡ []) × (pass.stop ≡ None) }
     requires hooks { AreHooked programs.now hooks.now }
-    ensures { IfOk result (λ q. HasRun programs.now seat.now pass.number q) }
+    ensures { IfOk result (λ q. IsAfterWorker programs.now seat.now pass.number q) }
 {
     let Some(program) = program_of(programs, pass.number()) else {
         return Ok(pass);
@@ -107,7 +107,7 @@ pub(crate) fn join_all<J: Opening>(
     requires len { vec_len ran ≡ length callers.now }
     requires ran { (i : ℕ) (d : _) → i < length callers.now
         → IfOk (slice_index_or ran.items i d)
-        (λ q. HasRun programs.now hub.now (slice_index_or callers.now i 0) q) }
+        (λ q. IsAfterWorker programs.now hub.now (slice_index_or callers.now i 0) q) }
     ensures { OnOk result (AreHome programs.now hub.now (length callers.now) steward.new) }
 {
     for outcome in ran {

@@ -1,5 +1,5 @@
 -- The meaning of a part of a text: the value that is read there, or its first fault.
-use Rattle.std.specs.Prelude.{◌≡◌, ℕ, ◌+◌, Result, Ok, Err, List, [], ◌∷◌, ◌⊎◌, ⊤}
+use Rattle.std.specs.Prelude.{◌≡◌, ℕ, ◌+◌, Result, Ok, Err, List, [], ◌∷◌, ⊤}
 use Rattle.table_fields.specs.declared.fault.TableError.{TableError}
 use Rattle.table_fields.specs.declared.fault.TableError.TheVariants as errors
 use Rattle.table_fields.specs.declared.fault.TableFault.{TableFault}

@@ -1,5 +1,5 @@
 -- The lock closes: the value is in the slot, and shows the history.
-use Rattle.std.proofs.Common.{inl, inr, ◌≡◌, ℕ, Bool, true, false, List, [], get_or}
+use Rattle.std.proofs.Common.{inl, inr, ◌≡◌, ℕ, Bool, true, false, List, get_or}
 use Rattle.std.proofs.Common.{sym, refl, ap, ◌∙◌, subst, Option, Some, None}
 use Rattle.std.proofs.lemmas.List.{get_or_default}
 use mathlib.Core.Option.{some, some-injective}

@@ -21,7 +21,7 @@ use Rattle.turn_lock.specs.Views.{IsLive, ticket_of, with_turn}
 use Rattle.turn_lock.specs.Words.{HasMine}
 use Rattle.turn_lock.specs.Rule.{Queued, HasTurn, Named, IsCaller, Owns, PartA, PartB, PartC, PartD}
 use Rattle.turn_lock.specs.Rule.{Rule}
-use Rattle.turn_lock.specs.Told.{Finds, LoadsServing}
+use Rattle.turn_lock.specs.Told.{FindsHistory, LoadsServing}
 use Rattle.turn_lock.proofs.Lists.{same_at}
 use Rattle.turn_lock.proofs.Seats.{state, some_step}
 use Rattle.turn_lock.proofs.Holders.{served}
@@ -79,7 +79,7 @@ module _ {K W Z : Type 0} (before : ℕ) (entries : K → List (Entry W)) (seal 
       (id : ℕ) (v : View W Z) → (a : PartA joined s) → PartB before entries log s
       → (c : PartC seal joined log s)
       → PartD before Right joined log s → get_elem? s.views id ≡ some v → IsLive v.role → (k : K)
-      → get_elem? s.homes 0 ≡ some (some (Some k)) → Finds before (entries k) (seal k) v
+      → get_elem? s.homes 0 ≡ some (some (Some k)) → FindsHistory before (entries k) (seal k) v
   finds joined log s id v a b c d at live k home =
       let tells : log ≡ entries k = sym (b.told k home) in
       let stands : seal k ≡ c.stop = c.at_home k home in record {

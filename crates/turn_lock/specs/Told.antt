@@ -16,7 +16,7 @@ use Rattle.turn_lock.specs.Rule.{Met}
 use Rattle.turn_lock.specs.Words.{HasMine, IsPartOf, NamesJoined, Stands, KnowsOwn, has_joined}
 
 -- the history and the seal that a pass finds when its turn comes
-pub record Finds {W Z : Type 0} (before : ℕ) (log : List (Entry W)) (seal : Option (Seal Z))
+pub record FindsHistory {W Z : Type 0} (before : ℕ) (log : List (Entry W)) (seal : Option (Seal Z))
     (v : View W Z) : Type 0 where
   pub seen : StartsWith log v.seen
   pub mine : HasMine log v.role v.mine
@@ -27,7 +27,7 @@ pub record Finds {W Z : Type 0} (before : ℕ) (log : List (Entry W)) (seal : Op
   pub counted : IsCounted log
   pub shown : IsShown log
 
--- the first pass is right about the history and the seal that the lock shows when it closes
+-- the knowledge of the first pass is true of the history and the seal that the lock has when it is closed
 pub record Closes {W Z : Type 0} (before : ℕ) (log : List (Entry W)) (seal : Option (Seal Z))
     (v : View W Z) : Type 0 where
   pub seen : StartsWith log v.seen
@@ -76,7 +76,7 @@ module _ {K W Z : Type 0} where
       → At K → Sat K W Z → ℕ → Sat K W Z → Type 0
   LoadsServing before entries seal st m n m' =
       (n ≡ ticket_of m.0.stage % 2 ^ 64
-      → (k : K) × (m' ≡ with_value entries seal k m) × Finds before (entries k) (seal k) m.0)
+      → (k : K) × (m' ≡ with_value entries seal k m) × FindsHistory before (entries k) (seal k) m.0)
       × (n ≢ ticket_of m.0.stage % 2 ^ 64 → m' ≡ m)
 
   -- the pass published these entries

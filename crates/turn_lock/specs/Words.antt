@@ -40,7 +40,7 @@ module _ {K W Z : Type 0} where
   abbrev pub RestsIn : TurnLock K W Z → Pass K W Z → Type 0
   RestsIn lock p = (lock_named p ≡ name lock) × Rests p
 
-  -- the same, and this is its knowledge
+  -- the pass rests in this lock, and this is its knowledge
   abbrev pub RestsWith : TurnLock K W Z → View W Z → Pass K W Z → Type 0
   RestsWith lock v p = RestsIn lock p × (view p ≡ v)
 

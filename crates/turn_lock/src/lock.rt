@@ -40,7 +40,7 @@ impl<K: Kept> TurnLock<K> {
     ghost use Rattle.turn_lock.specs.Words.{AllJoined, has_joined};
     ghost use Rattle.turn_lock.specs.Words.{HasTurnIn, IsFirstIn, RestsIn, RestsWith};
     ghost use Rattle.turn_lock.specs.Words.{lock_of, name, pass_of, value_of, view};
-    ghost use Rattle.turn_lock.specs.Told.{Closes, Finds, Reads};
+    ghost use Rattle.turn_lock.specs.Told.{Closes, FindsHistory, Reads};
     ghost use Rattle.turn_lock.specs.declared.view.Stage.TheVariants.{Waits};
 
     /// A lock with this value under it, and the first pass, which has no number.
@@ -122,7 +122,7 @@ impl<K: Kept> TurnLock<K> {
         ensures view { (ticket : ℕ)
             × (view (pass_of result)
             ≡ with_turn ticket (K.entries (value_of result)) (K.seal (value_of result)) (view p.old)) }
-        ensures finds { Finds K.before (K.entries (value_of result)) (K.seal (value_of result)) (view p.old) }
+        ensures finds { FindsHistory K.before (K.entries (value_of result)) (K.seal (value_of result)) (view p.old) }
     {
         self.stand_aside(rt);
         let ticket = self
@@ -183,7 +183,7 @@ impl<K: Kept> TurnLock<K> {
         ensures own { (place.new.table_id ≡ name self.now) × (place.new.me.1 ≡ (0, None) ∷ []) }
         ensures view { (ticket : ℕ)
             × (place.new.me.0 ≡ with_turn ticket (K.entries result) (K.seal result) place.old.me.0) }
-        ensures finds { Finds K.before (K.entries result) (K.seal result) place.old.me.0 }
+        ensures finds { FindsHistory K.before (K.entries result) (K.seal result) place.old.me.0 }
     {
         let mut looks = 0;
         for _ in rt.forever() {

@@ -11,7 +11,7 @@ use Rattle.vt_explain.specs.declared.hop_why.HopWhy.{HopWhy}
 use Rattle.vt_journal.proofs.Clear.{are_clear, is_clear, is_clear-decimal}
 use Rattle.vt_journal.proofs.Once.{same_number, small}
 use Rattle.vt_journal.proofs.OneSpelling.{OneSpelling}
-use Rattle.vt_journal.specs.Taking.{if_none_left}
+use Rattle.vt_journal.specs.Readers.{if_none_left}
 
 clear_number : (n : ℕ) → n ≤ 4294967295 → is_clear (decimal n) ≡ true
 clear_number n fit = is_clear-decimal n (small n fit)

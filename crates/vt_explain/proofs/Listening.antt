@@ -1,18 +1,16 @@
 -- How the items of a history are found, entry by entry and mark by mark.
-use Rattle.std.proofs.Common.{◌≡◌, ◌≢◌, ◌≤◌, ℕ, ◌+◌, cond, List, [], ◌∷◌, ◌++◌, length, Option, Some, None, refl, sym, ap, subst, ◌∙◌, arith}
+use Rattle.std.proofs.Common.{◌≡◌, ◌≢◌, ◌≤◌, ℕ, ◌+◌, cond, List, [], ◌∷◌, ◌++◌, length, refl, sym, ap, subst, ◌∙◌, arith}
 use Rattle.std.specs.Prelude.{count_by}
 use Rattle.std.proofs.lemmas.Bool.{ne_eqb}
 use Rattle.std.proofs.lemmas.List.{length_push}
 use Rattle.vt_check.specs.Watching.{IsNextEntry}
 use Rattle.vt_explain.proofs.Places.{count_more}
-use Rattle.vt_explain.specs.Finding.{HasRead, Known, asked_by, hear, hear_all, is_at, item_of, known_after, news_after, with_last_signal}
+use Rattle.vt_explain.specs.Finding.{HasRead, Known, hear, hear_all, is_at, item_of, known_after}
 use Rattle.vt_events.specs.declared.entry.Entry.{Entry}
 use Rattle.vt_switch.specs.Acts.{SwitchAct}
 use Rattle.vt_switch.specs.Moments.{Core, Moment, core_after, marks, with_acts}
 use Rattle.vt_switch.specs.News.{News, Asking, Going, news, news_of}
-use Rattle.vt_switch.specs.declared.hop.Hop.{Hop}
 use Rattle.vt_switch.specs.declared.mark.Mark.{Mark}
-use Rattle.vt_switch.specs.declared.mark.Mark.TheVariants as mark
 use Rattle.vt_world.specs.Acts.{event_acts}
 use Rattle.vt_world.specs.History.{replay}
 use Rattle.vt_world.specs.Laws.{MomentsGrow, TracesTellNews, moments}

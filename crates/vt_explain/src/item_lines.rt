@@ -1,7 +1,7 @@
 //! Items read from their lines.
 ghost use Rattle.std.specs.Prelude.{◌≡◌, ◌≢◌, ◌≤◌, ℕ, List, ◌∷◌, ◌++◌, codes, IfSome, IfNone};
 ghost use Rattle.vt_explain.specs.CertText.{IsFit, IsFitAsk, IsFitCause, asked_words, cause_words, head_words, item_words};
-ghost use Rattle.vt_journal.specs.Taking.{Finds, Takes};
+ghost use Rattle.vt_journal.specs.Readers.{Finds, Takes};
 ghost use Rattle.vt_journal.specs.Words.{joined_by_blanks};
 
 use crate::numbers::{take_caller, take_console, take_number, take_signal};

@@ -1,7 +1,7 @@
 //! Numbers that are words.
 ghost use Rattle.std.specs.Prelude.{◌≤◌, IfSome};
 ghost use Rattle.vt_explain.specs.CertText.{IsConsole};
-ghost use Rattle.vt_journal.specs.Taking.{Takes};
+ghost use Rattle.vt_journal.specs.Readers.{Takes};
 ghost use Rattle.vt_journal.specs.Words.{one_number};
 
 use vt_base::{CallerNo, ConsoleNo, Signal};

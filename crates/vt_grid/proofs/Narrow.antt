@@ -5,11 +5,11 @@ use Rattle.std.specs.List.{list_all}
 use Rattle.std.specs.Prelude.{All, not, ◌==◌}
 use Rattle.std.proofs.lemmas.Bool.{and_from, and_parts, cases_lt, cond-false, eqb-true, false≢true}
 use Rattle.std.proofs.lemmas.Bool.Decides.{nat_tests}
-use Rattle.std.proofs.lemmas.List.{get_or_default, get_or_past, set_past, take-append-drop}
+use Rattle.std.proofs.lemmas.List.{get_or_past, set_past, take-append-drop}
 use Rattle.std.proofs.lemmas.List.Elements.{All-append, All-drop, All-head, All-map, All-nil, All-cons, All-replicate, All-set, All-tail, All-take, All-weaker}
 use Rattle.vt_cells.specs.Width.{half, is_half, is_plain}
 use Rattle.vt_cells.specs.declared.cell.Cell.{Cell}
-use Rattle.vt_grid.specs.Grid.{GridView, cells_of_codes, filled_grid, overlaid, row_at, scrolled_up, with_row, with_run}
+use Rattle.vt_grid.specs.Grid.{GridView, filled_grid, overlaid, row_at, scrolled_up, with_row, with_run}
 use Rattle.vt_grid.specs.Halves.{IsNarrow, IsNarrowRow, split_pair, split_wide, split_wide_at, split_wide_between, space_in_colours}
 use Rattle.vt_grid.specs.StoredRow.{IsNarrowLine, StoredRow, cells_of, with_prefix_of, cut_at, with_stored_inserted, stored_up_to, with_stored_deleted, with_stored_cells}
 use Rattle.vt_grid.specs.Ring.{AreNarrow, RowSlot, blank_slot, cut_all, rows_by_number, no_slot, slot_at}

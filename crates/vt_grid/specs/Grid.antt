@@ -31,7 +31,7 @@ pub record HasPlace (s : GridView) (y x : ℕ) : Type 0 where
   pub column : x < s.cols
 
 -- the grid has so many cells in row y from column x on
-pub record HasRun (s : GridView) (y x count : ℕ) : Type 0 where
+pub record HasCells (s : GridView) (y x count : ℕ) : Type 0 where
   pub row : y < s.rows
   pub columns : x + count ≤ s.cols
 

@@ -1,5 +1,5 @@
 ghost use Rattle.std.specs.Prelude.{◌≡◌, ◌<◌, ◌≤◌, ◌+◌, take, IfOk};
-ghost use Rattle.vt_grid.specs.Grid.{HasCellAt, HasPlace, HasRows, HasRun, IsFull, with_deleted, with_erased, filled_grid, with_inserted, resized_grid, row_at, scrolled_down, scrolled_up, with_cell, with_run};
+ghost use Rattle.vt_grid.specs.Grid.{HasCellAt, HasPlace, HasRows, HasCells, IsFull, with_deleted, with_erased, filled_grid, with_inserted, resized_grid, row_at, scrolled_down, scrolled_up, with_cell, with_run};
 ghost use Rattle.vt_grid.specs.Halves.{split_wide_rows};
 ghost use Rattle.vt_grid.specs.Store.{scroll_steps};
 
@@ -179,8 +179,8 @@ impl Grid {
 impl Grid {
     // Copies the first `cols` cells of the old row `from` to row `y`.
     pub(crate) fn copy_row(&mut self, y: u8, old: &Grid, from: u8, cols: u8)
-        requires run { HasRun self.old y 0 cols }
-        requires old_run { HasRun old.now from 0 cols }
+        requires run { HasCells self.old y 0 cols }
+        requires old_run { HasCells old.now from 0 cols }
         ensures { self.new ≡ with_run self.old y 0 (take cols (row_at old.now from)) }
     {
         self.store.copy_row(y, &old.store, from, cols);

@@ -2,7 +2,7 @@
 ghost use Rattle.std.specs.List.{list_all};
 ghost use Rattle.std.specs.Prelude.{◌≡◌, ◌<◌, ◌≤◌, ◌+◌, ◌==◌, Some, false, not, true, length, slice_get};
 ghost use Rattle.vt_cells.specs.Width.{half, is_plain};
-ghost use Rattle.vt_grid.specs.Grid.{HasPlace, HasRun, cells_of_codes, row_at};
+ghost use Rattle.vt_grid.specs.Grid.{HasPlace, HasCells, cells_of_codes, row_at};
 ghost use Rattle.vt_grid.specs.Halves.{with_cells_at, split_wide, split_wide_at, split_wide_between, space_in_colours};
 
 use crate::Grid;
@@ -28,7 +28,7 @@ impl Grid {
     /// Sets the cells from column `x` on, one for each byte. A character that is covered in part is split.
     #[inline(always)]
     pub fn draw_bytes(&mut self, y: u8, x: u8, bytes: &[u8], attr: u8)
-        requires { HasRun self.old y x (length bytes.now) }
+        requires { HasCells self.old y x (length bytes.now) }
         ensures { self.new ≡ with_cells_at self.old y x (cells_of_codes bytes.now attr) }
     {
         self.stays_full();
@@ -41,7 +41,7 @@ impl Grid {
     #[inline(always)]
     pub fn draw_plain(&mut self, y: u8, x: u8, codes: &[u32], attr: u8)
         requires plain { list_all is_plain codes.now ≡ true }
-        requires run { HasRun self.old y x (length codes.now) }
+        requires run { HasCells self.old y x (length codes.now) }
         ensures { self.new ≡ with_cells_at self.old y x (cells_of_codes codes.now attr) }
     {
         self.stays_full();
@@ -52,7 +52,7 @@ impl Grid {
     /// Sets the cells from column `x` on, one for each code. A character that is covered in part is split.
     #[inline(always)]
     pub fn draw_codes(&mut self, y: u8, x: u8, codes: &[u32], attr: u8)
-        requires { HasRun self.old y x (length codes.now) }
+        requires { HasCells self.old y x (length codes.now) }
         ensures { self.new ≡ with_cells_at self.old y x (cells_of_codes codes.now attr) }
     {
         self.stays_full();

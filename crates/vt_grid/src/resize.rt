@@ -1,6 +1,6 @@
 //! The copy of a grid's cells into another size.
 ghost use Rattle.std.specs.Prelude.{◌≡◌, ◌<◌, ◌≤◌, min, take};
-ghost use Rattle.vt_grid.specs.Grid.{HasRun, resized_grid, row_at, with_run};
+ghost use Rattle.vt_grid.specs.Grid.{HasCells, resized_grid, row_at, with_run};
 ghost use Rattle.vt_grid.specs.Halves.{split_wide, split_wide_rows};
 
 use crate::Grid;
@@ -23,8 +23,8 @@ pub(crate) fn copy_cells(fresh: &mut Grid, old: &Grid, skip: u8, border: u8)
 
 // Copies the first cells of the old row `from`, split at `border`, to row `y`.
 fn copy_row(fresh: &mut Grid, old: &Grid, y: u8, from: u8, cols: u8, border: u8)
-    requires run { HasRun fresh.old y 0 cols }
-    requires old_run { HasRun old.now from 0 cols }
+    requires run { HasCells fresh.old y 0 cols }
+    requires old_run { HasCells old.now from 0 cols }
     requires border { cols ≤ border }
     ensures { fresh.new ≡ with_run fresh.old y 0 (take cols (split_wide border (row_at old.now from))) }
 {

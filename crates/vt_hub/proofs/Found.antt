@@ -5,7 +5,7 @@ use Rattle.std.proofs.lemmas.List.Sums.{count_by-le-length, length-filter}
 use Rattle.turn_lock.specs.History.{IsWordIn, word_of}
 use Rattle.turn_lock.specs.Rule.{IsCaller}
 use Rattle.turn_lock.specs.Views.{with_turn, with_published, without_turn}
-use Rattle.turn_lock.specs.Told.{Finds}
+use Rattle.turn_lock.specs.Told.{FindsHistory}
 use Rattle.turn_lock.specs.Words.{AddsNext, HasMine}
 use Rattle.turn_lock.specs.declared.seal.Seal.{Seal}
 use Rattle.turn_lock.specs.declared.view.Role.{Role}
@@ -37,7 +37,7 @@ pub record Found (start : WorldState) (most : Limits) (number seq : ℕ) (v : Vi
   pub sound : IsSound start most s
   pub named : v.role ≡ Caller number
   pub counted : seq ≡ length v.mine
-  pub finds : Finds (display_of start) (carried_entries start s.log.entries) s.stop v
+  pub finds : FindsHistory (display_of start) (carried_entries start s.log.entries) s.stop v
   pub ticket : ℕ
   pub has : held ≡ with_turn ticket (carried_entries start s.log.entries) s.stop v
 
@@ -45,14 +45,14 @@ pub record Found (start : WorldState) (most : Limits) (number seq : ℕ) (v : Vi
 pub found_from : (start : WorldState) (most : Limits) (number seq : ℕ) (v : View Entry Full)
     (old s : SharedView) (held : View Entry Full) → s ≡ old → IsSound start most s
     → v.role ≡ Caller number → seq ≡ length v.mine
-    → Finds (display_of start) (carried_entries start old.log.entries) old.stop v
+    → FindsHistory (display_of start) (carried_entries start old.log.entries) old.stop v
     → ((ticket : ℕ) × (held ≡ with_turn ticket (carried_entries start old.log.entries) old.stop v))
     → Found start most number seq v s held
 found_from start most number seq v old s held same sound named counted finds has = record {
   sound = sound;
   named = named;
   counted = counted;
-  finds = subst (λ (o : SharedView). Finds (display_of start) (carried_entries start o.log.entries) o.stop v)
+  finds = subst (λ (o : SharedView). FindsHistory (display_of start) (carried_entries start o.log.entries) o.stop v)
       (sym same) finds;
   ticket = has.0;
   has = has.1 ∙ ap (λ (o : SharedView). with_turn has.0 (carried_entries start o.log.entries) o.stop v)

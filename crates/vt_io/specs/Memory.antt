@@ -17,10 +17,11 @@ pub record SinkState : Type 0 where
   pub fails : List ℕ
   pub faults : ℕ
 
--- their bytes and faults
+-- the bytes left in the source, and its faults
 abbrev pub source_stream : SourceState → Stream
 source_stream s = record { bytes = Some s.left; faults = s.faults }
 
+-- the bytes held by the sink, and its faults
 abbrev pub sink_stream : SinkState → Stream
 sink_stream s = record { bytes = Some s.held; faults = s.faults }
 

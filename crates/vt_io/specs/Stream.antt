@@ -9,12 +9,13 @@ pub record Stream : Type 0 where
   pub bytes : Option (List ℕ)
   pub faults : ℕ
 
--- a source that never fails and has these bytes left, and a stream whose bytes aren't known
+-- a source that never fails, with these bytes left
 abbrev pub faultless : List ℕ → Stream
 faultless left = record { bytes = Some left; faults = 0 }
 
-abbrev pub unknown_bytes : ℕ → Stream
-unknown_bytes faults = record { bytes = None; faults = faults }
+-- a stream whose bytes aren't known, with so many faults
+abbrev pub unknown_stream : ℕ → Stream
+unknown_stream faults = record { bytes = None; faults = faults }
 
 -- the bytes held have grown by a prefix of the text
 abbrev pub GrowsByPrefix : Option (List ℕ) → Option (List ℕ) → List ℕ → Type 0

@@ -1,6 +1,6 @@
 ghost use Rattle.std.specs.Prelude.{◌≡◌, MatchResult};
 ghost use Rattle.vt_io.specs.Faults.{one_more};
-ghost use Rattle.vt_io.specs.Stream.{IsWrite, unknown_bytes};
+ghost use Rattle.vt_io.specs.Stream.{IsWrite, unknown_stream};
 
 use crate::retries::RETRIES;
 use crate::{Failed, Sink};
@@ -38,10 +38,10 @@ impl<W> StdSink<W> {
 }
 
 impl<W: Write> Sink for StdSink<W> {
-    ghost stream = { unknown_bytes };
+    ghost stream = { unknown_stream };
 
     fn write(&mut self, buf: &[u8]) -> Result<usize, Failed>
-        ensures write { IsWrite (unknown_bytes self.old) (unknown_bytes self.new) buf.now result }
+        ensures write { IsWrite (unknown_stream self.old) (unknown_stream self.new) buf.now result }
         ensures count { MatchResult result
             (λ _. self.new ≡ self.old)
             (λ _. self.new ≡ one_more self.old) }

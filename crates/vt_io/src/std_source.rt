@@ -1,6 +1,6 @@
 ghost use Rattle.std.specs.Prelude.{◌≡◌, ◌≤◌, IfSome, MatchResult, length};
 ghost use Rattle.vt_io.specs.Faults.{one_more};
-ghost use Rattle.vt_io.specs.Stream.{IsRead, unknown_bytes};
+ghost use Rattle.vt_io.specs.Stream.{IsRead, unknown_stream};
 
 use crate::cursor::copy_bytes;
 use crate::retries::RETRIES;
@@ -45,10 +45,10 @@ impl<R> StdSource<R> {
 }
 
 impl<R: Read> Source for StdSource<R> {
-    ghost stream = { unknown_bytes };
+    ghost stream = { unknown_stream };
 
     fn read(&mut self, buf: &mut [u8]) -> Result<usize, Failed>
-        ensures read { IsRead (unknown_bytes self.old) (unknown_bytes self.new) buf.old buf.new result }
+        ensures read { IsRead (unknown_stream self.old) (unknown_stream self.new) buf.old buf.new result }
         ensures count { MatchResult result
             (λ _. self.new ≡ self.old)
             (λ _. self.new ≡ one_more self.old) }

@@ -6,7 +6,7 @@ use Rattle.std.proofs.lemmas.Bool.{ltb-true}
 use Rattle.std.proofs.lemmas.List.Splits.{slice_split_first, slice_split-cons_no}
 use Rattle.std.proofs.lemmas.Iterator.Adapters.{position_from-zero}
 use Rattle.vt_journal.specs.Cut.{words_of_text}
-use Rattle.vt_journal.specs.Taking.{if_none_left}
+use Rattle.vt_journal.specs.Readers.{if_none_left}
 
 -- the first word ends at the first blank
 pub cut_at : (text : List ℕ) (i : ℕ) → Some i ≡ position (λ b. eqb b 0x20) text

@@ -8,7 +8,7 @@ use Rattle.std.proofs.lemmas.List.Splits.{join_with_byte-slice_split}
 use Rattle.vt_journal.specs.Cut.{words_of_text}
 use Rattle.vt_journal.specs.Journal.{line_text}
 use Rattle.vt_journal.specs.Lines.{IsCutAt, IsLine}
-use Rattle.vt_journal.specs.Taking.{Finds, Takes, if_none_left}
+use Rattle.vt_journal.specs.Readers.{Finds, Takes, if_none_left}
 use Rattle.vt_journal.specs.Words.{joined_by_blanks}
 use Rattle.vt_journal.proofs.Clear.{is_clear_line, line_joined_by_blanks, words_of_text-joined_by_blanks}
 

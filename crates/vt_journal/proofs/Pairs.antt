@@ -8,7 +8,7 @@ use Rattle.std.proofs.lemmas.Bool.Decides.{nat_tests}
 use Rattle.std.proofs.lemmas.List.Concat.{flat_map-append}
 use Rattle.std.proofs.lemmas.List.Elements.{All-cons}
 use Rattle.vt_journal.specs.Hex.{hex_byte, hex_digit, hex_text}
-use Rattle.vt_journal.specs.Taking.{Finds}
+use Rattle.vt_journal.specs.Readers.{Finds}
 
 -- each byte has two digits
 pub length_hex : (bytes : List ℕ) → length (flat_map hex_byte bytes) ≡ 2 * length bytes

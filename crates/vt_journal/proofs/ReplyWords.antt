@@ -18,7 +18,7 @@ use Rattle.vt_events.specs.Plain.{plain_reply}
 use Rattle.vt_events.specs.declared.reply.Reply.{Reply}
 use Rattle.vt_events.specs.declared.reply.Reply.TheVariants as reply
 use Rattle.vt_journal.specs.Replies.{IsFitReply, Within, kind_of, mosts, reply_held, reply_holds, reply_name, reply_numbers}
-use Rattle.vt_journal.specs.Taking.{Takes}
+use Rattle.vt_journal.specs.Readers.{Takes}
 use Rattle.vt_journal.specs.Words.{held_words, reply_words}
 use Rattle.vt_journal.specs.declared.reply_kind.ReplyKind.{ReplyKind}
 use Rattle.vt_journal.specs.declared.reply_kind.ReplyKind.TheVariants as kind

@@ -11,7 +11,7 @@ use Rattle.vt_events.specs.declared.kind.Kind.{Kind}
 use Rattle.vt_events.proofs.Calls.{IsOfKind, held-if, held_if, holds, is_made, kind_once, of_kind, same_call, takes_held}
 use Rattle.vt_journal.specs.Cut.{words_of_text}
 use Rattle.vt_journal.specs.Hex.{hex_text}
-use Rattle.vt_journal.specs.Taking.{Finds}
+use Rattle.vt_journal.specs.Readers.{Finds}
 use Rattle.vt_journal.specs.Words.{IsFit, IsFitCall, Spells, event_words, held_words, joined_by_blanks}
 use Rattle.vt_journal.proofs.Clear.{are_clear-event, wide}
 use Rattle.vt_journal.proofs.OneSpelling.{OneSpelling, cut_words}

@@ -5,9 +5,9 @@ pub mod Hex
 pub mod Journal
 pub mod Lines
 pub mod Log
+pub mod Readers
 pub mod Replies
 pub mod Room
 pub mod Says
-pub mod Taking
 pub mod Text
 pub mod Words

@@ -51,7 +51,7 @@ pub record IsFit (e : Event) : Type 0 where
   pub numbers : All (λ n. n < 2 ^ 16) (numbers_of e)
   pub bytes : IfSome (held_of e) (λ bytes. All (λ b. b < 2 ^ 8) bytes)
 
--- and they have no room
+-- the call is fit, and its bytes have no room
 abbrev pub IsFitCall : Event → Type 0
 IsFitCall e = IsFit e × (plain_event e ≡ e)
 

@@ -2,7 +2,7 @@
 ghost use Rattle.std.specs.Prelude.{IfOk, IfSome};
 ghost use Rattle.vt_journal.specs.Journal.{entry_words};
 ghost use Rattle.vt_journal.specs.Says.{IsFitEntry};
-ghost use Rattle.vt_journal.specs.Taking.{Finds, Takes};
+ghost use Rattle.vt_journal.specs.Readers.{Finds, Takes};
 ghost use Rattle.vt_journal.specs.Words.{joined_by_blanks};
 
 use crate::callers::take_caller;

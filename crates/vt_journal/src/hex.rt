@@ -2,7 +2,7 @@
 ghost use Rattle.std.specs.Prelude.{◌≡◌, ◌<◌, ◌%◌, ◌^◌, length, [], ◌∷◌, option_map, IfOk, IfSome};
 ghost use Rattle.std.specs.List.{All, flat_map};
 ghost use Rattle.vt_journal.specs.Hex.{hex_byte, hex_digit, hex_text};
-ghost use Rattle.vt_journal.specs.Taking.{Finds};
+ghost use Rattle.vt_journal.specs.Readers.{Finds};
 ghost use Rattle.vt_journal.specs.Text.{Adds};
 
 use crate::adding::{add, make_room};

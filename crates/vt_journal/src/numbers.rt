@@ -2,7 +2,7 @@
 ghost use Rattle.std.specs.Prelude.{◌≡◌, ◌+◌, ◌<◌, ◌≤◌, ◌^◌, [], ◌∷◌, length, map, decimal, option_map, IfSome};
 ghost use Rattle.std.specs.List.{All};
 ghost use Rattle.vt_journal.specs.Replies.{Within};
-ghost use Rattle.vt_journal.specs.Taking.{Finds, Takes};
+ghost use Rattle.vt_journal.specs.Readers.{Finds, Takes};
 ghost use Rattle.vt_journal.specs.Words.{one_number};
 
 use crate::words::Words;

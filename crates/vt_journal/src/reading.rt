@@ -3,7 +3,7 @@ ghost use Rattle.std.specs.Prelude.{◌≡◌, ◌<◌, ◌^◌, ⊤, [], ◌∷
 ghost use Rattle.std.specs.List.{All};
 ghost use Rattle.vt_events.specs.Kinds.{name_of};
 ghost use Rattle.vt_events.specs.declared.event.Event.{Event};
-ghost use Rattle.vt_journal.specs.Taking.{Takes};
+ghost use Rattle.vt_journal.specs.Readers.{Takes};
 ghost use Rattle.vt_journal.specs.Words.{IsFitCall, Spells, event_words, held_words};
 
 use crate::hex::parse_hex;

@@ -1,7 +1,7 @@
 //! Answers read from their words.
 ghost use Rattle.std.specs.Prelude.{⊤, [], ◌∷◌, IfOk, IfSome};
 ghost use Rattle.vt_journal.specs.Replies.{IsFitReply, reply_name};
-ghost use Rattle.vt_journal.specs.Taking.{Takes};
+ghost use Rattle.vt_journal.specs.Readers.{Takes};
 ghost use Rattle.vt_journal.specs.Words.{reply_words};
 
 use crate::numbers::take_numbers;

@@ -1,7 +1,7 @@
 ghost use Rattle.std.specs.Prelude.{◌≡◌, ◌≢◌, ⊤, IfSome, IfNone};
 ghost use Rattle.vt_events.specs.declared.reply.Reply.{Reply};
 ghost use Rattle.vt_journal.specs.Replies.{IsAnswer, Within, kind_of, mosts, reply_holds, reply_name, reply_numbers};
-ghost use Rattle.vt_journal.specs.Taking.{Finds};
+ghost use Rattle.vt_journal.specs.Readers.{Finds};
 ghost use Rattle.vt_journal.specs.declared.reply_kind.ReplyKind.{ReplyKind};
 
 use vt_base::{Bytes, Errno, SigSet, VtMode};

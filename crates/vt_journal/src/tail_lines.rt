@@ -2,7 +2,7 @@
 ghost use Rattle.std.specs.Prelude.{◌∷◌, codes, IfSome};
 ghost use Rattle.vt_journal.specs.Journal.{tail_words};
 ghost use Rattle.vt_journal.specs.Says.{IsFitTail};
-ghost use Rattle.vt_journal.specs.Taking.{Finds, Takes};
+ghost use Rattle.vt_journal.specs.Readers.{Finds, Takes};
 ghost use Rattle.vt_journal.specs.Words.{joined_by_blanks};
 
 use crate::numbers::take_number;

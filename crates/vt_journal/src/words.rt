@@ -1,7 +1,7 @@
 ghost use Rattle.std.specs.Bool.{OnFalse, OnTrue};
 ghost use Rattle.std.specs.Prelude.{◌≡◌, ◌≢◌, ◌==◌, ℕ, List, [], ◌∷◌, MatchOption, position};
 ghost use Rattle.vt_journal.specs.Cut.{words_of_text};
-ghost use Rattle.vt_journal.specs.Taking.{if_none_left};
+ghost use Rattle.vt_journal.specs.Readers.{if_none_left};
 
 use std::marker::Model;
 

@@ -4,7 +4,7 @@ use Rattle.std.proofs.lemmas.List.{drop_all}
 use Rattle.vt_grid.specs.Grid.{row_at}
 use Rattle.vt_screen.specs.Run.{ScreenAndOuts, run_from, screen_effects}
 use Rattle.vt_screen.specs.Screen.{Screen}
-use Rattle.vt_screen.specs.Touched.{AreSameOutside, ChangesAtMost, IsAt, Moves}
+use Rattle.vt_screen.specs.ChangedRows.{AreSameOutside, ChangesAtMost, IsAt, Moves}
 use Rattle.vt_screen.specs.declared.place.Place.{Place}
 use Rattle.vt_units.specs.Run.{Reached, run, step}
 

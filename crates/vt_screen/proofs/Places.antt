@@ -13,7 +13,7 @@ use Rattle.vt_screen.specs.Erasing.{cells_inserted}
 use Rattle.vt_screen.specs.Printing.{after_wrap, lacks_room, print, with_cells_at_cursor, with_gap}
 use Rattle.vt_screen.specs.Run.{ScreenAndOuts, screen_effects, then_done}
 use Rattle.vt_screen.specs.Screen.{Screen, mode_of}
-use Rattle.vt_screen.specs.Touched.{AreSameOutside, IsAt, Moves, after_cell}
+use Rattle.vt_screen.specs.ChangedRows.{AreSameOutside, IsAt, Moves, after_cell}
 use Rattle.vt_screen.specs.declared.place.Place.{Place}
 use Rattle.vt_units.specs.Bytes.{is_control, is_never_shown, is_printable}
 use Rattle.vt_units.specs.Laws.{ControlsAreUnits, PrintablesAreCharacters}

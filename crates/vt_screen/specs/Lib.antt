@@ -1,4 +1,5 @@
 pub mod Asking
+pub mod ChangedRows
 pub mod Cursor
 pub mod Effect
 pub mod Erasing
@@ -14,4 +15,3 @@ pub mod Screen
 pub mod Settings
 pub mod Tape
 pub mod TextRows
-pub mod Touched

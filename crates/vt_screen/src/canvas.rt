@@ -20,7 +20,7 @@ mod saves;
 mod sequences;
 mod settings;
 
-use crate::said::Said;
+use crate::side_effect::SideEffect;
 use crate::{BLANK, ScreenState};
 use std::marker::Model;
 use vt_cells::{Cell, Palette};
@@ -109,7 +109,7 @@ impl Canvas {
     }
 
     /// Applies the unit. `said` is then its side effect.
-    pub(crate) fn dispatch(&mut self, unit: &Unit, said: &mut Said)
+    pub(crate) fn dispatch(&mut self, unit: &Unit, said: &mut SideEffect)
         ensures { effect unit.now self.old ≡ record { screen = self.new; said = said.new } }
     {
         said.clear();

@@ -11,7 +11,7 @@ mod sequences;
 
 use crate::canvas::Canvas;
 use crate::leading::line_feeds;
-use crate::said::Said;
+use crate::side_effect::SideEffect;
 use crate::{Outs, ScreenState};
 use std::marker::Model;
 use vt_cells::{Cell, Palette, columns_are_few};
@@ -67,7 +67,7 @@ impl Emu {
     {
         let mut at = 0;
         while at < b.len() {
-            let mut said = Said::new();
+            let mut said = SideEffect::new();
             at += self.take_prefix(&b[at..], &mut said);
             outs.say(said);
         }
@@ -82,7 +82,7 @@ impl Emu {
         ensures few { length outs.new ≤ length b.now }
     {
         for byte in b {
-            let mut said = Said::new();
+            let mut said = SideEffect::new();
             self.take(*byte, &mut said);
             outs.say(said);
         }
@@ -132,7 +132,7 @@ impl Emu {
 
     // Reads a byte and applies its result.
     #[inline(never)]
-    fn take(&mut self, byte: u8, said: &mut Said)
+    fn take(&mut self, byte: u8, said: &mut SideEffect)
         ensures { run_from self.old (byte ∷ []) ≡ with_outs (outs_of_option said.new) self.new }
     {
         said.clear();
@@ -148,7 +148,7 @@ impl Emu {
     }
 
     // Does what `take` does, by a faster way for a control character by itself.
-    fn take_quickly(&mut self, byte: u8, said: &mut Said)
+    fn take_quickly(&mut self, byte: u8, said: &mut SideEffect)
         ensures { run_from self.old (byte ∷ []) ≡ with_outs (outs_of_option said.new) self.new }
     {
         controls_are_units();
@@ -161,7 +161,7 @@ impl Emu {
 
     // Runs the start of the text, as much at once as possible, and returns the number of its bytes.
     #[inline(always)]
-    pub(crate) fn take_prefix(&mut self, b: &[u8], said: &mut Said) -> usize
+    pub(crate) fn take_prefix(&mut self, b: &[u8], said: &mut SideEffect) -> usize
         requires { 0 < length b.now }
         ensures some { 0 < result }
         ensures ran { HasRun self.old b.now result self.new said.new }
@@ -181,7 +181,7 @@ impl Emu {
 
     // Runs a sequence or line feeds at the start of the text, and returns the number of their bytes.
     #[inline(always)]
-    fn take_run(&mut self, b: &[u8], said: &mut Said) -> usize
+    fn take_run(&mut self, b: &[u8], said: &mut SideEffect) -> usize
         requires { 0 < length b.now }
         ensures { HasRun self.old b.now result self.new said.new }
     {

@@ -2,7 +2,7 @@ ghost use Rattle.std.specs.Prelude.{◌≡◌, ◌<◌, ◌≤◌, ◌+◌, [], 
 ghost use Rattle.vt_screen.specs.Run.{outs_of_option};
 
 use crate::Out;
-use crate::said::Said;
+use crate::side_effect::SideEffect;
 use arrayvec::ArrayVec;
 use std::marker::Model;
 
@@ -47,7 +47,7 @@ impl Outs {
     }
 
     /// Adds a side effect at the end, if there is one.
-    pub(crate) fn say(&mut self, said: Said)
+    pub(crate) fn say(&mut self, said: SideEffect)
         requires { length self.old < 64 }
         ensures said { self.new ≡ self.old ++ outs_of_option said }
         ensures few { length self.new ≤ length self.old + 1 }

@@ -1,6 +1,6 @@
 //! The cursor's place after a byte that scrolls nothing.
 ghost use Rattle.std.specs.Prelude.{◌≡◌, IfSome};
-ghost use Rattle.vt_screen.specs.Touched.{Moves, after_cell};
+ghost use Rattle.vt_screen.specs.ChangedRows.{Moves, after_cell};
 
 use vt_cells::columns_are_few;
 use vt_units::{controls_are_units, printables_are_characters};

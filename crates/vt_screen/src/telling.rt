@@ -3,7 +3,7 @@ ghost use Rattle.std.specs.Prelude.{◌≡◌, ◌<◌, ◌≤◌, length, take}
 ghost use Rattle.vt_screen.specs.Hearing.{HearsAll};
 ghost use Rattle.vt_screen.specs.Run.{after, outs_of_option, outs_of_run};
 
-use crate::said::Said;
+use crate::side_effect::SideEffect;
 use crate::{Emu, Listener, any_cut};
 
 impl Emu {
@@ -16,7 +16,7 @@ impl Emu {
         any_cut();
         let mut at = 0;
         while at < b.len() {
-            let mut said = Said::new();
+            let mut said = SideEffect::new();
             at += self.take_prefix(&b[at..], &mut said);
             tell(said, listener);
         }
@@ -25,7 +25,7 @@ impl Emu {
 
 // Gives the listener the side effect, if there is one.
 #[inline(always)]
-fn tell<L: Listener>(said: Said, listener: &mut L)
+fn tell<L: Listener>(said: SideEffect, listener: &mut L)
     ensures { HearsAll L.hears listener.old (outs_of_option said) listener.new }
 {
     if let Some(out) = said.into_option() {

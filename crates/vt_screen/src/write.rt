@@ -2,7 +2,7 @@
 ghost use Rattle.std.specs.Prelude.{◌≡◌, ◌≤◌, [], length, take};
 ghost use Rattle.vt_screen.specs.Run.{after, outs_of_run};
 
-use crate::said::Said;
+use crate::side_effect::SideEffect;
 use crate::{Emu, Outs, any_cut};
 
 impl Emu {
@@ -12,7 +12,7 @@ impl Emu {
         ensures { self.new ≡ after self.old b.now }
     {
         any_cut();
-        let mut said = Said::new();
+        let mut said = SideEffect::new();
         let mut rest = b;
         while !rest.is_empty() {
             let count = self.take_prefix(rest, &mut said);
@@ -30,7 +30,7 @@ impl Emu {
         ensures all { outs.new ≡ [] → result ≡ length b.now }
     {
         outs.clear();
-        let mut said = Said::new();
+        let mut said = SideEffect::new();
         let mut at = 0;
         while at < b.len() && said.is_none() {
             at += self.take_prefix(&b[at..], &mut said);

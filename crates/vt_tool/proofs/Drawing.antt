@@ -1,5 +1,5 @@
 -- The part of a source that is drawn on a screen so far.
-use Rattle.std.proofs.Common.{refl, ◌≡◌, ℕ, ◌+◌, ◌<◌, ◌≤◌, List, [], ◌++◌, length, take, Option, Some, None, sym, ap, ◌∙◌, arith, length-append, take-take}
+use Rattle.std.proofs.Common.{◌≡◌, ℕ, ◌+◌, ◌<◌, ◌≤◌, List, ◌++◌, length, take, Option, sym, ap, ◌∙◌, arith, length-append, take-take}
 use Rattle.std.proofs.Math.Seq.{take-append-add}
 use Rattle.std.proofs.lemmas.List.{length-take-le}
 use Rattle.std.specs.Io.KnownBytes.{Consumes}

@@ -1,7 +1,7 @@
 -- The run of a command that a call knows.
-use Rattle.std.proofs.Common.{◌≡◌, ℕ, List, Some, sym, ◌∙◌}
+use Rattle.std.proofs.Common.{◌≡◌, ℕ, List, Some}
 use Rattle.vt_io.specs.Stream.{Stream}
-use Rattle.vt_tool.specs.Run.{Begins, Holds, ProgramRun, Streams}
+use Rattle.vt_tool.specs.Run.{Begins, Holds}
 use Rattle.vt_tool.specs.Words.{Form, command_of}
 use Rattle.vt_tool.specs.declared.command.Command.{Command}
 use Rattle.vt_tool.specs.declared.status.Status.{Status}

@@ -1,12 +1,11 @@
 -- The output of scan bytes, one after another.
-use Rattle.std.proofs.Common.{◌≡◌, ◌<◌, ℕ, ◌+◌, List, [], ◌∷◌, ◌++◌, length, take, drop, get_or, Some, None, refl, sym, ap, ◌∙◌, append_assoc, append-nil}
-use Rattle.std.proofs.lemmas.List.{drop_more, take_more}
+use Rattle.std.proofs.Common.{◌≡◌, ℕ, ◌+◌, List, [], ◌∷◌, ◌++◌, Some, None, refl, sym, ap, ◌∙◌, append_assoc, append-nil}
 use Rattle.std.specs.Prelude.{option_to_list}
 use Rattle.key_tables.specs.Tables.{Tables}
 use Rattle.scan_codes.specs.Laws.{events, rest}
 use Rattle.scan_codes.specs.Scan.{Scan, bytes_after, event_after, scan_of, start_codes}
 use Rattle.scan_codes.specs.declared.key_event.KeyEvent.{KeyEvent}
-use Rattle.vt_tool.specs.Commands.Typing.{Typing, after_typing, lines_after, said_after, start_typing, typing_step, typed_line, typed_on, make_typing}
+use Rattle.vt_tool.specs.Commands.Typing.{Typing, after_typing, start_typing, typing_step, typed_on, make_typing}
 use Rattle.vt_tool.specs.Commands.Typed.{HasTyped, TypistView}
 
 -- one more byte is kept after the others

@@ -4,12 +4,12 @@ ghost use Rattle.vt_screen.specs.Effect.{control};
 
 use super::Canvas;
 use crate::Out;
-use crate::said::Said;
+use crate::side_effect::SideEffect;
 
 impl Canvas {
     /// Applies a control character. `said` is then its side effect.
     #[tactic(auto, unfolding(crate::specs::Effect::control, crate::specs::Effect::look_up))]
-    pub(crate) fn control(&mut self, code: u8, said: &mut Said)
+    pub(crate) fn control(&mut self, code: u8, said: &mut SideEffect)
         ensures { control code self.old ≡ record { screen = self.new; said = said.new } }
     {
         said.clear();

@@ -4,13 +4,13 @@ ghost use Rattle.vt_screen.specs.Effect.{escape, plain_escape};
 ghost use Rattle.vt_screen.specs.Settings.{alignment_pattern};
 
 use super::Canvas;
-use crate::said::Said;
+use crate::side_effect::SideEffect;
 
 impl Canvas {
     /// Applies an escape sequence. `said` is then its side effect.
     #[inline(always)]
     #[tactic(auto, unfolding(crate::specs::Effect::escape))]
-    pub(crate) fn escape(&mut self, mid: u8, last: u8, said: &mut Said)
+    pub(crate) fn escape(&mut self, mid: u8, last: u8, said: &mut SideEffect)
         ensures { escape mid last self.old ≡ record { screen = self.new; said = said.new } }
     {
         said.clear();
@@ -26,7 +26,7 @@ impl Canvas {
 
     #[inline(always)]
     #[tactic(auto, unfolding(crate::specs::Effect::plain_escape, crate::specs::Effect::look_up))]
-    fn plain_escape(&mut self, last: u8, said: &mut Said)
+    fn plain_escape(&mut self, last: u8, said: &mut SideEffect)
         requires { said.old ≡ None }
         ensures { plain_escape last self.old ≡ record { screen = self.new; said = said.new } }
     {

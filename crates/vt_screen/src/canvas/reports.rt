@@ -5,7 +5,7 @@ ghost use Rattle.vt_screen.specs.Saying.{console_setting, cursor_text, device_re
 
 use super::Canvas;
 use crate::report_text::push_decimal;
-use crate::said::Said;
+use crate::side_effect::SideEffect;
 use crate::{Out, ReportText};
 use vt_cells::Look;
 use vt_sgr::Pen;
@@ -14,7 +14,7 @@ impl Canvas {
     /// DA: the kind of the terminal, a VT102.
     #[inline(never)]
     #[tactic(auto, unfolding(crate::specs::Saying::device_report))]
-    pub(super) fn report_device(&self, which: u16, said: &mut Said)
+    pub(super) fn report_device(&self, which: u16, said: &mut SideEffect)
         ensures { device_report which self.now ≡ record { screen = self.now; said = said.new } }
     {
         match which {
@@ -26,7 +26,7 @@ impl Canvas {
     /// DSR: the status of the terminal, or the cursor's place.
     #[inline(never)]
     #[tactic(auto, unfolding(crate::specs::Saying::status_report))]
-    pub(super) fn report_status(&self, which: u16, said: &mut Said)
+    pub(super) fn report_status(&self, which: u16, said: &mut SideEffect)
         ensures { status_report which self.now ≡ record { screen = self.now; said = said.new } }
     {
         match which {
@@ -39,7 +39,7 @@ impl Canvas {
     /// DECLL: sets the keyboard's lights.
     #[inline(never)]
     #[tactic(auto, unfolding(crate::specs::Saying::lights))]
-    pub(super) fn report_lights(&self, which: u16, said: &mut Said)
+    pub(super) fn report_lights(&self, which: u16, said: &mut SideEffect)
         ensures { lights which self.now ≡ record { screen = self.now; said = said.new } }
     {
         match which {
@@ -54,7 +54,7 @@ impl Canvas {
     /// CSI ]: settings of the console, and requests for another one.
     #[inline(never)]
     #[tactic(auto, unfolding(crate::specs::Saying::console_setting))]
-    pub(super) fn set_console(&mut self, which: u16, value: u16, said: &mut Said)
+    pub(super) fn set_console(&mut self, which: u16, value: u16, said: &mut SideEffect)
         ensures { console_setting which value self.old ≡ record { screen = self.new; said = said.new } }
     {
         said.clear();

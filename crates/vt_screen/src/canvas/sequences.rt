@@ -6,7 +6,7 @@ ghost use Rattle.vt_units.specs.ShortSequences.{more_numbers, numbers_in};
 ghost use Rattle.vt_units.specs.declared.unit.Unit.TheVariants.{Csi};
 
 use super::Canvas;
-use crate::said::Said;
+use crate::side_effect::SideEffect;
 use vt_units::LongSgr;
 
 impl Canvas {
@@ -16,7 +16,7 @@ impl Canvas {
         private: bool,
         params: &[u16],
         last: u8,
-        said: &mut Said,
+        said: &mut SideEffect,
     )
         ensures { effect (Csi private params.now last) self.old ≡ record { screen = self.new; said = said.new } }
     {
@@ -38,7 +38,7 @@ impl Canvas {
         second: u16,
         both: bool,
         last: u8,
-        said: &mut Said,
+        said: &mut SideEffect,
     )
         ensures { control_sequence (numbers_in first second both) last self.old
             ≡ record { screen = self.new; said = said.new } }
@@ -66,7 +66,7 @@ impl Canvas {
         second: u16,
         params: &[u16],
         last: u8,
-        said: &mut Said,
+        said: &mut SideEffect,
     )
         requires first { first ≡ number_at params.now 0 }
         requires second { second ≡ number_at params.now 1 }

@@ -1,16 +1,16 @@
 //! The rows that a text may change.
 ghost use Rattle.std.specs.Prelude.{◌≡◌, [], true, false, IfSome};
 ghost use Rattle.vt_screen.specs.Screen.{mode_of};
-ghost use Rattle.vt_screen.specs.Touched.{ChangesAtMost};
+ghost use Rattle.vt_screen.specs.ChangedRows.{ChangesAtMost};
 ghost use Rattle.vt_units.specs.Bytes.{decodes};
 
 use super::Emu;
 use crate::place::{Place, next_place};
 
 impl Emu {
-    /// The first and the last row that these bytes may change, where it is known: between two units, with
-    /// autowrap and without newline mode, for bytes of UTF-8 that are printable characters of ASCII, BEL, BS,
-    /// LF or CR and don't scroll. Otherwise every row may change.
+    /// The first and the last row that these bytes may change, both included; if it is `None`, they may change
+    /// every row. Rows are known if the bytes begin between two units, are printable characters of ASCII, BEL,
+    /// BS, LF or CR, and don't scroll, and the screen has UTF-8, autowrap and no newline mode. This project's own.
     pub fn changed_rows(&self, bytes: &[u8]) -> Option<(u8, u8)>
         ensures { IfSome result (λ rows. ChangesAtMost rows.0 rows.1 self.now bytes.now) }
     {

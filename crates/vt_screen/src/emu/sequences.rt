@@ -3,13 +3,13 @@ ghost use Rattle.std.specs.Prelude.{◌≡◌};
 ghost use Rattle.vt_screen.specs.Run.{HasRun};
 
 use crate::Emu;
-use crate::said::Said;
+use crate::side_effect::SideEffect;
 use vt_units::{Params, WholeSequence, sequences_are_units};
 
 impl Emu {
     // Does what `take_sequence` does, by a faster way for a sequence of one or two short parameters.
     #[inline(always)]
-    pub(super) fn take_short_csi(&mut self, b: &[u8], said: &mut Said) -> usize
+    pub(super) fn take_short_csi(&mut self, b: &[u8], said: &mut SideEffect) -> usize
         ensures { HasRun self.old b.now result self.new said.new }
     {
         sequences_are_units();
@@ -25,7 +25,7 @@ impl Emu {
 
     // Does what `take_sequence` does, by a faster way for an escape sequence of two bytes.
     #[inline(always)]
-    fn take_escape(&mut self, b: &[u8], said: &mut Said) -> usize
+    fn take_escape(&mut self, b: &[u8], said: &mut SideEffect) -> usize
         ensures { HasRun self.old b.now result self.new said.new }
     {
         sequences_are_units();
@@ -40,7 +40,7 @@ impl Emu {
 
     // Does what `take_sequence` does, by a faster way for SGR that sets one colour.
     #[inline(never)]
-    fn take_long_sgr(&mut self, b: &[u8], said: &mut Said) -> usize
+    fn take_long_sgr(&mut self, b: &[u8], said: &mut SideEffect) -> usize
         ensures { HasRun self.old b.now result self.new said.new }
     {
         sequences_are_units();
@@ -57,7 +57,7 @@ impl Emu {
     // Runs the sequence that the text begins with, if it is read at once, and returns the number of its
     // bytes.
     #[inline(never)]
-    fn take_sequence(&mut self, b: &[u8], said: &mut Said) -> usize
+    fn take_sequence(&mut self, b: &[u8], said: &mut SideEffect) -> usize
         ensures { HasRun self.old b.now result self.new said.new }
     {
         sequences_are_units();

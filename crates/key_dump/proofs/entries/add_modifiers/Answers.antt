@@ -1,4 +1,4 @@
-use Rattle.std.proofs.Common.{append_assoc, sym}
+use Rattle.std.proofs.Common.{append_assoc}
 use Rattle.std.proofs.lemmas.Bool.{ne_eqb}
 use Rattle.key_dump.proofs.Rows.{weighed_words}
 use Rattle.key_dump.proofs.entries.add_modifiers.Goals as goal

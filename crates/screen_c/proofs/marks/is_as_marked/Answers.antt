@@ -1,4 +1,4 @@
-use Rattle.std.proofs.Common.{◌≡◌, ◌&&◌, Bool, List, [], ap, sym, ◌∙◌, get_or}
+use Rattle.std.proofs.Common.{◌&&◌, Bool, List, ap, sym, ◌∙◌}
 use Rattle.screen_c.proofs.RowTests.{test_of_rows}
 use Rattle.vt_cells.specs.declared.cell.Cell.{Cell}
 use Rattle.vt_grid.specs.Grid.{row_at}

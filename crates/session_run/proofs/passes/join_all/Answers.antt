@@ -1,7 +1,7 @@
 use Rattle.std.proofs.Common.{rules, ◌≡◌, ℕ, ◌<◌, arith, [], ◌∷◌, Ok, IfOk, get_or, length, sym, ◌∙◌, subst, length-append}
 use Rattle.std.proofs.lemmas.Iterator.Adapters.{YieldsList-from_vec}
 use Rattle.std.proofs.lemmas.Iterator.Consumers.{YieldsList-turn}
-use Rattle.session_run.specs.Racing.{AreHome, HasRun}
+use Rattle.session_run.specs.Racing.{AreHome, IsAfterWorker}
 use Rattle.session_run.proofs.Joins.{home_more}
 use Rattle.session_run.proofs.passes.join_all.Goals as goal
 
@@ -12,10 +12,10 @@ loop-outcome-preserved g c =
     let n : ℕ = length c.loop-outcome.yielded in
     let within : n < length c.args.callers.now = omega (arith, turn.0, c.requires.len, c.args.ran.ok.0) in
     let all = c.requires.ran n c.in-Some.outcome within in
-    let given = subst (λ o. IfOk o (λ q. HasRun c.args.programs.now c.args.hub.now (get_or c.args.callers.now n 0) q)) (sym turn.1) all in
+    let given = subst (λ o. IfOk o (λ q. IsAfterWorker c.args.programs.now c.args.hub.now (get_or c.args.callers.now n 0) q)) (sym turn.1) all in
     let is : c.in-Some.outcome ≡ Ok c.in_ok-pass.pass = search rules in
-    let run : HasRun c.args.programs.now c.args.hub.now (get_or c.args.callers.now n 0) c.in_ok-pass.pass =
-    subst (λ o. IfOk o (λ q. HasRun c.args.programs.now c.args.hub.now (get_or c.args.callers.now n 0) q)) is given in
+    let run : IsAfterWorker c.args.programs.now c.args.hub.now (get_or c.args.callers.now n 0) c.in_ok-pass.pass =
+    subst (λ o. IfOk o (λ q. IsAfterWorker c.args.programs.now c.args.hub.now (get_or c.args.callers.now n 0) q)) is given in
     record {
       can_next = tt;
       is_finite = tt;

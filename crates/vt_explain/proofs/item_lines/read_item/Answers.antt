@@ -1,6 +1,6 @@
 use Rattle.std.proofs.Common.{Some, None, [], sym, subst}
 use Rattle.vt_journal.proofs.OneSpelling.{whole}
-use Rattle.vt_journal.specs.Taking.{Finds}
+use Rattle.vt_journal.specs.Readers.{Finds}
 use Rattle.vt_journal.specs.Words.{joined_by_blanks}
 use Rattle.vt_explain.proofs.Items.{item_spelling, left_none, left_some}
 use Rattle.vt_explain.specs.CertText.{IsFit, item_words}

@@ -2,7 +2,7 @@
 ghost use Rattle.std.specs.List.{list_all};
 ghost use Rattle.std.specs.Prelude.{◌≡◌, ◌+◌, ◌-◌, ◌<◌, ◌≤◌, ◌==◌, length, map, not, replicate, take, true};
 ghost use Rattle.vt_cells.specs.Width.{half};
-ghost use Rattle.vt_grid.specs.Grid.{HasPlace, HasRun, with_deleted, with_erased, filled_grid, with_inserted, row_at, with_run};
+ghost use Rattle.vt_grid.specs.Grid.{HasPlace, HasCells, with_deleted, with_erased, filled_grid, with_inserted, row_at, with_run};
 ghost use Rattle.vt_grid.specs.Ring.{blank_slot};
 ghost use Rattle.vt_grid.specs.Store.{grid_view};
 
@@ -24,7 +24,7 @@ impl RowStore {
     /// that none of them is the code of a right half.
     #[inline(always)]
     pub(crate) fn put_run<T: Code>(&mut self, y: u8, x: u8, codes: &[T], attr: u8, narrow: bool)
-        requires run { HasRun (grid_view self.old) y x (length codes.now) }
+        requires run { HasCells (grid_view self.old) y x (length codes.now) }
         requires narrow { narrow ≡ true → list_all (λ c. not (T.code_of c == half)) codes.now ≡ true }
         ensures { grid_view self.new
             ≡ with_run (grid_view self.old) y x
@@ -54,7 +54,7 @@ impl RowStore {
 
     // Puts the cell `c` into row `y` from column `x` on, `count` times.
     fn fill(&mut self, y: u8, x: u8, count: u8, c: Cell)
-        requires { HasRun (grid_view self.old) y x count }
+        requires { HasCells (grid_view self.old) y x count }
         ensures { grid_view self.new
             ≡ with_run (grid_view self.old) y x (replicate count c) }
     {
@@ -113,8 +113,8 @@ impl RowStore {
 
     /// The first `cols` cells of row `y` become those of the old row `from`.
     pub(crate) fn copy_row(&mut self, y: u8, old: &RowStore, from: u8, cols: u8)
-        requires run { HasRun (grid_view self.old) y 0 cols }
-        requires old_run { HasRun (grid_view old.now) from 0 cols }
+        requires run { HasCells (grid_view self.old) y 0 cols }
+        requires old_run { HasCells (grid_view old.now) from 0 cols }
         ensures { grid_view self.new
             ≡ with_run (grid_view self.old) y 0 (take cols (row_at (grid_view old.now) from)) }
     {
@@ -129,7 +129,7 @@ impl RowStore {
     // Row `y` becomes the old row `from`, up to its length.
     fn copy_whole(&mut self, y: u8, old: &RowStore, from: u8)
         requires row { y < self.old.rows }
-        requires old_run { HasRun (grid_view old.now) from 0 self.old.cols }
+        requires old_run { HasCells (grid_view old.now) from 0 self.old.cols }
         ensures { grid_view self.new
             ≡ with_run (grid_view self.old) y 0
             (take self.old.cols (row_at (grid_view old.now) from)) }
@@ -145,8 +145,8 @@ impl RowStore {
 
     // The first `count` cells of row `y` become those of the old row `from`.
     fn cover_row(&mut self, y: u8, old: &RowStore, from: u8, count: u8)
-        requires run { HasRun (grid_view self.old) y 0 count }
-        requires old_run { HasRun (grid_view old.now) from 0 count }
+        requires run { HasCells (grid_view self.old) y 0 count }
+        requires old_run { HasCells (grid_view old.now) from 0 count }
         ensures { grid_view self.new
             ≡ with_run (grid_view self.old) y 0 (take count (row_at (grid_view old.now) from)) }
     {

@@ -1,7 +1,7 @@
 use Rattle.std.proofs.Common.{◌≡◌, ◌-◌, true, false, sym, subst, arith, rules}
 use Rattle.std.proofs.lemmas.Bool.Decides.{nat_tests}
 use Rattle.vt_screen.proofs.Places.{back, bell, below, character_below, character_here, feed, in_column, return}
-use Rattle.vt_screen.specs.Touched.{Moves}
+use Rattle.vt_screen.specs.ChangedRows.{Moves}
 use Rattle.vt_units.specs.Bytes.{is_printable}
 use Rattle.vt_screen.proofs.place.next_place.Goals as goal
 

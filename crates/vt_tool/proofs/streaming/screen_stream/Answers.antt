@@ -1,4 +1,3 @@
-use Rattle.std.proofs.Common.{◌≡◌}
 use Rattle.vt_tool.proofs.Drawing.{drawn_past}
 use Rattle.vt_tool.proofs.streaming.screen_stream.Goals as goal
 

@@ -1,4 +1,4 @@
-use Rattle.std.proofs.Common.{◌≡◌, ◌<◌, ℕ, ◌+◌, List, [], ◌∷◌, ◌++◌, length, sym, ap, ◌∙◌, subst, arith, length-append}
+use Rattle.std.proofs.Common.{◌<◌, ℕ, ◌+◌, List, [], ◌∷◌, ◌++◌, length, sym, ap, ◌∙◌, subst, arith, length-append}
 use Rattle.std.specs.List.{concat}
 use Rattle.cooked.proofs.SizeLaws.{added_parts, added_whole, joined_parts, joined_whole, no_longer, parts_count, parts_whole, size_of_last}
 use Rattle.cooked.proofs.kept_text.KeptText.put.Goals as goal

@@ -1,6 +1,6 @@
 -- A null pointer with the allocator is a handle that holds nothing.
 use Rattle.std.proofs.Common.{◌≡◌, List, [], ◌∷◌, ◌++◌, refl, sym, subst}
-use base.Fml.{ftrue, feq}
+use base.Fml.{ftrue}
 use base.Logic.{SProp, ent, emp, id⊢}
 use contract.Monad.{fact, fact_i}
 use contract.Running.{tables}
@@ -18,7 +18,7 @@ use types.Part.{agg}
 use types.Run.{lit, no_more, and_then, returns, enter}
 use Rattle.core.proofs.alloc.Calls.{Goes-blank, handle_tells}
 use Rattle.raw_box.proofs.Parts.{pair}
-use Rattle.screen_c.proofs.HandleParts.{Owned, Heap, allocator, is_typed, together}
+use Rattle.screen_c.proofs.HandleParts.{Heap, allocator, is_typed, together}
 use Rattle.screen_c.proofs.handle.ScreenHandle.none.Code as code
 use Rattle.screen_c.proofs.handle.ScreenHandle.none.Statement.{statement}
 use Rattle.screen_c.specs.contracts.handle.ScreenHandle.none.Key.{name as own_name}

@@ -1,6 +1,6 @@
 use Rattle.std.proofs.Common.{sym, ap, ◌∙◌}
 use Rattle.vt_journal.specs.Cut.{cut_of}
-use Rattle.vt_journal.specs.Taking.{if_none_left}
+use Rattle.vt_journal.specs.Readers.{if_none_left}
 use Rattle.vt_journal.proofs.Cuts.{some_left}
 use Rattle.vt_journal.proofs.words.Words.if_none_left.Goals as goal
 

@@ -1,4 +1,4 @@
-use Rattle.std.proofs.Common.{◌≡◌, ◌-◌, min, ap, ◌∙◌, arith, rules}
+use Rattle.std.proofs.Common.{◌-◌, min, ap, ◌∙◌, arith, rules}
 use Rattle.std.proofs.lemmas.List.{places}
 use Rattle.vt_grid.proofs.Edited.{shown_remove}
 use Rattle.vt_grid.proofs.Naming.{changed_is}

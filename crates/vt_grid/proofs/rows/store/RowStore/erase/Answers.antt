@@ -1,4 +1,4 @@
-use Rattle.std.proofs.Common.{◌+◌, ◌-◌, replicate, ap, ◌∙◌, arith}
+use Rattle.std.proofs.Common.{◌-◌, replicate, ap, ◌∙◌, arith}
 use Rattle.vt_grid.specs.Grid.{with_erased, with_run}
 use Rattle.vt_grid.specs.Store.{grid_view}
 use Rattle.vt_grid.proofs.rows.store.RowStore.erase.Goals as goal

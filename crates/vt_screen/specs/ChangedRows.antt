@@ -16,7 +16,7 @@ abbrev pub ChangesAtMost : ℕ → ℕ → Reached Screen → List ℕ → Type 
 ChangesAtMost first last m bytes = AreSameOutside first last m.state (after m bytes).state
 
 -- the cursor is here, on a screen of so many columns whose region ends in this row. Text is UTF-8, characters
--- wrap, and a line feed stays in its column. No public clause names this, nor the next one
+-- wrap, and a line feed stays in its column. No public clause names this, nor the two definitions below
 pub record IsAt (cols bottom : ℕ) (at : Place) (s : Screen) : Type 0 where
   pub decoding : decodes (mode_of s) ≡ true
   pub wraps : s.state.autowrap ≡ true

@@ -5,12 +5,12 @@ use std::marker::Model;
 
 /// The side effect of a unit, if it has one. Contracts see an `Option`; clearing it writes one byte.
 #[derive(Drop)]
-pub(crate) struct Said {
+pub(crate) struct SideEffect {
     holds: bool,
     out: Out,
 }
 
-impl Model for Said {
+impl Model for SideEffect {
     ghost use Rattle.std.specs.Prelude.{None, Option, Some, if◌then◌else◌};
     ghost use Rattle.vt_screen.specs.declared.out.Out.{Out};
 
@@ -19,11 +19,11 @@ impl Model for Said {
     ghost view = { λ s. if s.holds then Some s.out else None };
 }
 
-impl Said {
-    pub(crate) fn new() -> Said
+impl SideEffect {
+    pub(crate) fn new() -> SideEffect
         ensures { result ≡ None }
     {
-        Said {
+        SideEffect {
             holds: false,
             out: Out::Bell,
         }
