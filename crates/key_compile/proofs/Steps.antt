@@ -1,16 +1,15 @@
 -- Entries that are set one by one.
-use Rattle.std.proofs.Common.{◌≡◌, ℕ, ◌+◌, ◌<◌, Bool, true, false, ◌==◌, ◌&&◌, ◌||◌, cond, Option, Some, None, is_some, IsSome, unwrap_or, List, [], ◌∷◌, ◌++◌, length, get_or, take, refl, sym, ap, ◌∙◌, inl, inr, arith, rules}
-use Rattle.std.proofs.lemmas.Bool.{eq-eqb, false≢true}
+use Rattle.std.proofs.Common.{◌≡◌, ℕ, zero, suc, ◌+◌, ◌<◌, Bool, true, false, ◌==◌, ◌&&◌, ◌||◌, cond, Option, Some, None, is_some, unwrap_or, List, [], ◌∷◌, ◌++◌, length, get_or, take, refl, sym, ap, ◌∙◌, inl, inr, arith, rules}
+use Rattle.std.proofs.lemmas.Bool.{false≢true}
 use Rattle.std.proofs.lemmas.Bool.Decides.{eqb_tells}
 use Rattle.std.proofs.lemmas.List.{length-take, take_more}
-use Rattle.std.proofs.lemmas.List.Folds.{list_any_at, list_any_more}
+use Rattle.std.proofs.lemmas.List.Folds.{list_any_more}
 use Rattle.std.specs.List.{list_any}
 use Rattle.std.specs.Option.{option_map, option_or}
 use Rattle.key_syms.specs.Act.{Act}
 use Rattle.key_tables.specs.Tables.{Tables, entry_of, exists_in, with_entry}
-use Rattle.key_text.specs.KeymapLine.{Telling, KeymapLine}
+use Rattle.key_text.specs.KeymapLine.{KeymapLine}
 use Rattle.key_compile.specs.Entries.{by_symbols, last_action, everywhere, gives, action_of_table}
-use Rattle.key_compile.specs.Existing.{HasOwnTable, HasTables}
 use Rattle.key_compile.specs.Fill.{filled_action}
 use Rattle.key_compile.specs.Puts.{Puts}
 
@@ -33,6 +32,11 @@ twice first (Some b) (Some a) = refl
 pub puts_join : (f g : ℕ → ℕ → Option Act) (old middle new : Tables) → Puts f old middle → Puts g middle new → Puts (λ t c. option_or (g t c) (f t c)) old new
 puts_join f g old middle new first second = search (rules, twice)
 
+-- after some entries others are set
+pub puts_next : (f step g : ℕ → ℕ → Option Act) (old middle new : Tables) → ((t c : ℕ) → option_or (step t c) (f t c) ≡ g t c) → Puts f old middle → Puts step middle new → Puts g old new
+puts_next f step g old middle new same before now =
+    puts_same (λ t c. option_or (step t c) (f t c)) g old new same (puts_join f step old middle new before now)
+
 -- a table exists where it has entries
 existing : (k : Tables) (t : ℕ) → exists_in k t ≡ is_some (entry_of k t 0)
 existing k t = grind (arith, is_some)
@@ -41,13 +45,18 @@ pub puts_exist : (f : ℕ → ℕ → Option Act) (old new : Tables) → Puts f 
 puts_exist f old new puts t =
     grind (arith, existing, is_some)
 
--- one entry of a table that exists
-set_there : (m : Option (List Act)) (c : ℕ) (a : Act) → is_some m ≡ true → Some a ≡ option_map (λ b. unwrap_or (Some a) b) (option_map (λ map. get_or map c (record { kind = 0; value = 0 })) m)
-set_there None c a h = absurd (false≢true h)
-set_there (Some map) c a h = refl
+-- one entry, if its table exists
+set_one : (here : Bool) (a : Act) (e : Option Act) → option_map (λ b. cond here a b) e ≡ option_map (λ b. unwrap_or (cond here (Some a) None) b) e
+set_one here a None = refl
+set_one true a (Some b) = refl
+set_one false a (Some b) = refl
 
-pub puts_one : (old new : Tables) (table code : ℕ) (a : Act) → exists_in old table ≡ true → ((t c : ℕ) → entry_of new t c ≡ cond (t == table && c == code) (Some a) (entry_of old t c)) → new.funcs ≡ old.funcs → new.pairs ≡ old.pairs → Puts (λ t c. cond (t == table && c == code) (Some a) None) old new
-puts_one old new table code a there each funcs pairs = search (rules, set_there, kept, eqb_tells, false≢true)
+pub puts_one : (old new : Tables) (table code : ℕ) (a : Act) → ((t c : ℕ) → entry_of new t c ≡ option_map (λ b. cond (t == table && c == code) a b) (entry_of old t c)) → new ≡ with_entry old table code a → Puts (λ t c. cond (t == table && c == code) (Some a) None) old new
+puts_one old new table code a each is = record {
+  entries = λ t c. each t c ∙ set_one (t == table && c == code) a (entry_of old t c);
+  funcs = ap (λ (k : Tables). k.funcs) is;
+  pairs = ap (λ (k : Tables). k.pairs) is;
+}
 
 pub or_moved : {X : Type 0} (x y z : Option X) → option_or (option_or x y) z ≡ option_or x (option_or y z)
 or_moved None y z = refl
@@ -102,34 +111,19 @@ paired_next union actions code i d h k t c =
     by_tests false true before = refl
     by_tests false false before = refl
 
-pub puts_entry : (f g : ℕ → ℕ → Option Act) (old middle new : Tables) (table code : ℕ) (a : Act) → Puts f old middle → exists_in middle table ≡ true → ((t c : ℕ) → entry_of new t c ≡ cond (t == table && c == code) (Some a) (entry_of middle t c)) → new ≡ with_entry middle table code a → ((t c : ℕ) → option_or (cond (t == table && c == code) (Some a) None) (f t c) ≡ g t c) → Puts g old new
-puts_entry f g old middle new table code a puts there each is same =
-    grind (arith, puts_same, puts_join, puts_one)
-
-pub union_exists : (f : ℕ → ℕ → Option Act) (union : List ℕ) (old now : Tables) (i : ℕ) → HasTables union old → Puts f old now → i < length union → exists_in now (get_or union i 0) ≡ true
-union_exists f union old now i has puts h =
-    puts_exist f old now puts (get_or union i 0)
-    ∙ has (get_or union i 0) (list_any_at (λ u. get_or union i 0 == u) union i 0 h (eq-eqb (get_or union i 0) (get_or union i 0) refl))
-
-pub tables_stay : (f : ℕ → ℕ → Option Act) (union : List ℕ) (old now : Tables) → HasTables union old → Puts f old now → HasTables union now
-tables_stay f union old now has puts t e = puts_exist f old now puts t ∙ has t e
-
-pub own_table_stays : (f : ℕ → ℕ → Option Act) (telling : Telling) (old now : Tables) → HasOwnTable telling old → Puts f old now → HasOwnTable telling now
-own_table_stays f telling old now has puts t h e = puts_exist f old now puts t ∙ has t h e
-
-pub paired_front : (us : List ℕ) (acts : List Act) (t : ℕ) → action_of_table (take (length acts) us) acts t ≡ action_of_table us acts t
-paired_front [] [] t = refl
-paired_front [] (a ∷ acts) t = refl
-paired_front (u ∷ us) [] t = refl
-paired_front (u ∷ us) (a ∷ acts) t = ap (λ x. option_or x (cond (t == u) (Some a) None)) (paired_front us acts t)
+-- tables past the symbols, and symbols past the tables, give no action
+pub paired_all : (us : List ℕ) (acts : List Act) (i t : ℕ) → (i < length us → i < length acts → ⊥) → action_of_table (take i us) (take i acts) t ≡ action_of_table us acts t
+paired_all [] acts zero t h = refl
+paired_all [] acts (suc i) t h = refl
+paired_all (u ∷ us) [] zero t h = refl
+paired_all (u ∷ us) [] (suc i) t h = refl
+paired_all (u ∷ us) (a ∷ acts) zero t h = absurd (h (omega arith) (omega arith))
+paired_all (u ∷ us) (a ∷ acts) (suc i) t h =
+    ap (λ x. option_or x (cond (t == u) (Some a) None))
+    (paired_all us acts i t (λ p q. h (omega (arith, p)) (omega (arith, q))))
 
 pub by_symbols_many : (union : List ℕ) (actions : List Act) (t : ℕ) → (length actions ≡ 1 → ⊥) → action_of_table union actions t ≡ by_symbols union actions t
 by_symbols_many [] [] t h = refl
 by_symbols_many (u ∷ us) [] t h = refl
 by_symbols_many union (a ∷ []) t h = absurd (h refl)
 by_symbols_many union (a ∷ b ∷ rest) t h = refl
-
--- a table that has an entry exists
-pub table_there : (m : Option (List Act)) (c : ℕ) → IsSome (option_map (λ map. get_or map c (record { kind = 0; value = 0 })) m) → is_some m ≡ true
-table_there None c h = h
-table_there (Some map) c h = refl

@@ -1,9 +1,9 @@
 -- The common result of the steps of compiling.
-use Rattle.std.proofs.Common.{◌≡◌, ◌≢◌, ℕ, suc, zero, ◌+◌, ◌-◌, ◌<◌, ◌≤◌, Bool, true, false, ◌==◌, ◌&&◌, ◌||◌, cond, nat_le, nat_lt, Option, Some, None, unwrap_or, List, [], ◌∷◌, length, get_or, length-append, refl, ap, ◌∙◌, inl, inr, arith, rules}
+use Rattle.std.proofs.Common.{◌≡◌, ◌≢◌, ℕ, suc, zero, ◌+◌, ◌<◌, ◌≤◌, Bool, true, false, ◌==◌, ◌&&◌, ◌||◌, cond, nat_le, nat_lt, Option, Some, None, unwrap_or, List, [], ◌∷◌, length, get_or, length-append, refl, ap, ◌∙◌, inl, inr, arith, rules}
 use Rattle.std.proofs.Math.Bool.{and-false, or-false}
-use Rattle.std.proofs.lemmas.Bool.{cases_lt, eq-eqb, false≢true, le-leb, lt-leb, lt-ltb, ltb-false, or_left, or_right}
+use Rattle.std.proofs.lemmas.Bool.{cases_lt, false≢true, le-leb, lt-leb, lt-ltb, ltb-false}
 use Rattle.std.proofs.lemmas.Bool.Decides.{eqb_tells}
-use Rattle.std.proofs.lemmas.List.Folds.{list_any-append, list_any_at}
+use Rattle.std.proofs.lemmas.List.Folds.{list_any-append}
 use Rattle.std.specs.List.{list_any, slice_index_or}
 use Rattle.std.specs.Option.{option_map, option_or}
 use Rattle.key_syms.specs.Act.{Act, act}
@@ -14,13 +14,12 @@ use Rattle.key_text.specs.KeymapLine.{Telling, KeymapLine, keymaps, keys, one, s
 use Rattle.key_text.specs.declared.fault.KeyFault.{KeyFault}
 use Rattle.key_compile.specs.Compiled.{AreStart, AreTablesOf}
 use Rattle.key_compile.specs.Entries.{last_action, entry_in, is_alt, is_ascii_act, line_entry, meta_over}
-use Rattle.key_compile.specs.Existing.{FitUnion, HasTables, HaveOwnTables, fits_union}
 use Rattle.key_compile.specs.Faults.{at_line, compile_fault, fault_of, first_fault, is_key, pairs_fault, pairs_of_line}
 use Rattle.key_compile.specs.Metas.{meta_at, meta_of, metas_below}
 use Rattle.key_compile.specs.Pairs.{pairs_by, pairs_in, usual}
 use Rattle.key_compile.specs.Puts.{Puts, PutsTexts}
 use Rattle.key_compile.specs.Strings.{last_text}
-use Rattle.key_compile.specs.Union.{IsSetOf, in_union, is_declared, modifies_table, passing_below, union_of}
+use Rattle.key_compile.specs.Union.{IsSetOf, is_declared, passing_below, union_of}
 use Rattle.key_compile.proofs.Marking.{passing_below_none, passing_below-suc}
 use Rattle.key_compile.proofs.Steps.{puts_exist}
 
@@ -55,28 +54,8 @@ among pass (suc n) t h = any_suc (λ d. d == t) pass n ∙ (elim (eqb_tells n t)
       ∙ among pass n t (let other : n ≢ t = e.1 in omega arith)
 ])
 
-eqb_comm : (a b : ℕ) → (a == b) ≡ (b == a)
-eqb_comm a b = grind (arith, eqb_tells, eq-eqb)
-
-flipped : (t : ℕ) (xs : List ℕ) → list_any (λ u. t == u) xs ≡ list_any (λ d. d == t) xs
-flipped t [] = refl
-flipped t (x ∷ xs) = ap (λ b. b || list_any (λ u. t == u) xs) (eqb_comm t x) ∙ ap (λ b. (x == t) || b) (flipped t xs)
-
-named : (pass : ℕ → Bool) (t : ℕ) → list_any (λ u. t == u) (passing_below pass 256) ≡ true → (t < 256) × (pass t ≡ true)
-named pass t e = grind (arith, cases_lt, among, flipped, false≢true, none_from)
-
 pub start_of : (lines : List KeymapLine) (marks : List Bool) (declared : List ℕ) (k : Tables) → IsSetOf marks (is_declared lines) → declared ≡ passing_below (λ t. slice_index_or marks t false) 256 → IsEmpty declared k → AreStart lines k
 start_of lines marks declared k set e empty = search (rules, among)
-
-pub has_union : (lines : List KeymapLine) (union : List ℕ) (k : Tables) → AreStart lines k → union ≡ union_of lines → HasTables union k
-unfolding union_of is_declared
-has_union lines union k start e t h =
-    grind (arith, named, or_left)
-
-pub has_own : (lines : List KeymapLine) (k : Tables) → AreStart lines k → HaveOwnTables lines k
-unfolding is_declared
-has_own lines k start i d h t small e =
-    start.exist t small ∙ or_right (in_union lines t) (list_any (λ l. modifies_table t l.telling) lines) (list_any_at (λ l. modifies_table t l.telling) lines i d h e)
 
 no_fault : (l : KeymapLine) (x : Option ℕ) (y : Option KeyFault) → option_or (option_map (at_line l) x) y ≡ None → (x ≡ None) × (y ≡ None)
 no_fault l None y e = (refl, e)
@@ -85,25 +64,6 @@ no_fault l (Some kind) y e = let f : Some (at_line l kind) ≡ None = e in cc
 no_choice : (b : Bool) (kind : ℕ) → cond b (Some kind) None ≡ None → b ≡ false
 no_choice true kind e = let f : Some kind ≡ None = e in cc
 no_choice false kind e = refl
-
-fits : (n : ℕ) (seen : Bool) (count : ℕ) (telling : Telling) → fault_of n seen count telling ≡ None → fits_union n telling ≡ true
-fits n seen count (keymaps tables) e = refl
-fits n seen count (keys code actions) e = le-leb (length actions) n (ltb-false n (length actions) (no_choice (nat_lt n (length actions)) 4 e))
-fits n seen count (one table code action) e = refl
-fits n seen count (string func bytes) e = refl
-fits n seen count (compose pair) e = refl
-fits n seen count alt_is_meta e = refl
-fits n seen count usual_strings e = refl
-fits n seen count usual_pairs e = refl
-
-all_fit : (n : ℕ) (seen : Bool) (count : ℕ) (lines : List KeymapLine) → first_fault n seen count lines ≡ None → FitUnion n lines
-all_fit n seen count [] e i d h = absurd (omega arith)
-all_fit n seen count (l ∷ ls) e zero d h = fits n seen count l.telling (no_fault l _ _ e).0
-all_fit n seen count (l ∷ ls) e (suc i) d h = all_fit n (seen || is_key l.telling) (count + pairs_of_line l.telling) ls (no_fault l _ _ e).1 i d (omega arith)
-
-pub lines_fit : (lines : List KeymapLine) (union : List ℕ) → union ≡ union_of lines → compile_fault lines ≡ None → FitUnion (length union) lines
-unfolding compile_fault
-lines_fit lines union e good = all_fit (length union) false 0 lines (ap (λ us. first_fault (length us) false 0 lines) e ∙ good)
 
 length-usual : length usual ≡ 66
 unfolding usual

@@ -1,7 +1,6 @@
 pub mod Compiled
 pub mod Dumpable
 pub mod Entries
-pub mod Existing
 pub mod Faults
 pub mod Fill
 pub mod Metas

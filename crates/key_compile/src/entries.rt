@@ -1,8 +1,6 @@
 //! The entries that lines set.
-ghost use Rattle.std.specs.Prelude.{◌≡◌, ◌≢◌, ◌≤◌, ◌==◌, ◌&&◌, true, length, Some, None, cond};
-ghost use Rattle.key_tables.specs.Tables.{exists_in};
+ghost use Rattle.std.specs.Prelude.{◌≡◌, ◌≢◌, ◌==◌, ◌&&◌, Some, None, cond};
 ghost use Rattle.key_compile.specs.Entries.{by_symbols, last_action, everywhere, gives, action_of_table};
-ghost use Rattle.key_compile.specs.Existing.{FitUnion, HasOwnTable, HasTables, HaveOwnTables, fits_union};
 ghost use Rattle.key_compile.specs.Puts.{Puts};
 
 use crate::fill::filled_action;
@@ -12,9 +10,6 @@ use key_text::{Line, LineKind};
 
 /// Sets the entries that the lines give, one line after another.
 pub(crate) fn put_lines(tables: &mut KeyTables, union: &[u8], lines: &[Line])
-    requires exist { HasTables union.now tables.old }
-    requires own { HaveOwnTables lines.now tables.old }
-    requires fit { FitUnion (length union.now) lines.now }
     ensures { Puts (last_action union.now lines.now) tables.old tables.new }
 {
     for i in 0..lines.len() {
@@ -24,9 +19,6 @@ pub(crate) fn put_lines(tables: &mut KeyTables, union: &[u8], lines: &[Line])
 
 // Sets the entries that a line gives.
 fn put_line(tables: &mut KeyTables, union: &[u8], line: &Line)
-    requires exist { HasTables union.now tables.old }
-    requires own { HasOwnTable line.now.telling tables.old }
-    requires fit { fits_union (length union.now) line.now.telling ≡ true }
     ensures { Puts (gives union.now line.now.telling) tables.old tables.new }
 {
     match &line.kind {
@@ -40,9 +32,10 @@ fn put_line(tables: &mut KeyTables, union: &[u8], line: &Line)
     }
 }
 
-fn put_one(tables: &mut KeyTables, table: u8, code: u8, action: Action)
-    requires exists { exists_in tables.old table ≡ true }
-    requires key { code ≢ 0 }
+/// Sets an entry, if its table exists.
+#[tactic(auto, using(crate::proofs::Steps::puts_one))]
+pub(crate) fn put_one(tables: &mut KeyTables, table: u8, code: u8, action: Action)
+    requires { code ≢ 0 }
     ensures { Puts (λ t c. cond (t == table && c == code) (Some action) None)
         tables.old tables.new }
 {
@@ -51,9 +44,7 @@ fn put_one(tables: &mut KeyTables, table: u8, code: u8, action: Action)
 
 // Sets the symbols of a key line: one symbol in all tables of the union, several in the first of them.
 fn put_symbols(tables: &mut KeyTables, union: &[u8], code: u8, actions: &[Action])
-    requires exist { HasTables union.now tables.old }
-    requires key { code ≢ 0 }
-    requires fit { length actions.now ≤ length union.now }
+    requires { code ≢ 0 }
     ensures { Puts (λ t c. cond (c == code) (by_symbols union.now actions.now t) None)
         tables.old tables.new }
 {
@@ -65,25 +56,22 @@ fn put_symbols(tables: &mut KeyTables, union: &[u8], code: u8, actions: &[Action
 }
 
 fn put_everywhere(tables: &mut KeyTables, union: &[u8], code: u8, action: Action)
-    requires exist { HasTables union.now tables.old }
-    requires key { code ≢ 0 }
+    requires { code ≢ 0 }
     ensures { Puts (λ t c. cond (c == code) (everywhere union.now action t) None)
         tables.old tables.new }
 {
     for i in 0..union.len() {
         let table = union[i];
-        tables.set_entry(table, code, filled_action(table, action));
+        put_one(tables, table, code, filled_action(table, action));
     }
 }
 
 fn put_paired(tables: &mut KeyTables, union: &[u8], code: u8, actions: &[Action])
-    requires exist { HasTables union.now tables.old }
-    requires key { code ≢ 0 }
-    requires fit { length actions.now ≤ length union.now }
+    requires { code ≢ 0 }
     ensures { Puts (λ t c. cond (c == code) (action_of_table union.now actions.now t) None)
         tables.old tables.new }
 {
-    for i in 0..actions.len() {
-        tables.set_entry(union[i], code, actions[i]);
+    for i in 0..union.len().min(actions.len()) {
+        put_one(tables, union[i], code, actions[i]);
     }
 }

@@ -1,11 +1,12 @@
 //! The entries that `alt_is_meta` sets.
-ghost use Rattle.std.specs.Prelude.{◌≡◌, ◌≢◌, ◌<◌, ◌+◌, ◌==◌, ◌&&◌, None, cond, IsSome};
+ghost use Rattle.std.specs.Prelude.{◌≡◌, ◌≢◌, ◌<◌, ◌+◌, ◌==◌, ◌&&◌, None, cond};
 ghost use Rattle.std.specs.List.{list_any};
 ghost use Rattle.key_tables.specs.Tables.{entry_of};
 ghost use Rattle.key_compile.specs.Entries.{is_alt, is_ascii_act};
 ghost use Rattle.key_compile.specs.Metas.{meta_at, meta_given, meta_of, metas_below};
 ghost use Rattle.key_compile.specs.Puts.{Puts};
 
+use crate::entries::put_one;
 use crate::fill::is_character_act;
 use key_syms::{Action, KEYCODES, kind};
 use key_tables::KeyTables;
@@ -62,15 +63,14 @@ fn put_meta(tables: &mut KeyTables, t: u8, c: u8)
     let below = tables.entry(t, c);
     let above = tables.entry(t + 8, c);
     match meta_of(below, above) {
-        Some(meta) => tables.set_entry(t + 8, c, meta),
+        Some(meta) => put_one(tables, t + 8, c, meta),
         None => {}
     }
 }
 
 // The meta of a character over a hole, if both tables exist.
 fn meta_of(below: Option<Action>, above: Option<Action>) -> Option<Action>
-    ensures value { result ≡ meta_of below above }
-    ensures exists { IsSome result → IsSome above }
+    ensures { result ≡ meta_of below above }
 {
     let below = below?;
     let above = above?;

@@ -1,4 +1,5 @@
-ghost use Rattle.std.specs.Prelude.{◌≡◌, ◌≢◌, ◌≤◌, ◌==◌, ◌&&◌, ℕ, [], None, Some, cond, length, replicate, IsTrue, IfOk};
+ghost use Rattle.std.specs.Prelude.{◌≡◌, ◌≢◌, ◌≤◌, ◌==◌, ◌&&◌, ℕ, [], cond, length, replicate, IfOk};
+ghost use Rattle.std.specs.Option.{option_map};
 ghost use Rattle.key_tables.specs.Listing.{listing_of};
 ghost use Rattle.key_tables.specs.Tables.{IsEmpty, IsWhole, entry_of, exists_in, found_in, func_of, with_entry, with_func, with_pairs};
 
@@ -78,13 +79,12 @@ impl KeyTables {
         self.maps.at(t, c)
     }
 
-    /// Sets the action of a keycode in a table.
+    /// Sets the action of a keycode in a table, if the table exists.
     pub fn set_entry(&mut self, t: u8, c: u8, a: Action)
-        requires exists { IsTrue (exists_in self.old t) }
         requires key { c ≢ 0 }
         ensures tables { self.new ≡ with_entry self.old t c a }
         ensures entries { (u d : ℕ) → entry_of self.new u d
-            ≡ cond (u == t && d == c) (Some a) (entry_of self.old u d) }
+            ≡ option_map (λ b. cond (u == t && d == c) a b) (entry_of self.old u d) }
     {
         self.maps.put(t, c, a);
     }

@@ -1,16 +1,5 @@
-use Rattle.key_compile.proofs.Whole.{finish, has_own, has_union, lines_fit, pairs_fit}
+use Rattle.key_compile.proofs.Whole.{finish, pairs_fit}
 use Rattle.key_compile.proofs.compiling.fill_tables.Goals as goal
-
-pub put_lines-requires-clause-exist : goal.put_lines-requires-clause-exist
-put_lines-requires-clause-exist c =
-    has_union c.args.lines.now c.args.union.now c.args.tables.now c.requires.start c.requires.union
-
-pub put_lines-requires-clause-own : goal.put_lines-requires-clause-own
-put_lines-requires-clause-own c = has_own c.args.lines.now c.args.tables.now c.requires.start
-
-pub put_lines-requires-clause-fit : goal.put_lines-requires-clause-fit
-put_lines-requires-clause-fit c =
-    lines_fit c.args.lines.now c.args.union.now c.requires.union c.requires.good
 
 pub set_pairs-requires : goal.set_pairs-requires
 set_pairs-requires c = pairs_fit c.args.lines.now c.args.pairs.now c.requires.pairs c.requires.good

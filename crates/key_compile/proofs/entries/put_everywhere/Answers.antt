@@ -2,20 +2,16 @@ use Rattle.std.proofs.Common.{◌==◌, ◌&&◌, ◌+◌, ◌∙◌, ℕ, cond,
 use Rattle.std.proofs.lemmas.List.{take_all}
 use Rattle.std.specs.Option.{option_or}
 use Rattle.key_compile.specs.Entries.{everywhere}
-use Rattle.key_compile.proofs.Steps.{everywhere_next, puts_entry, puts_same, union_exists}
+use Rattle.key_compile.proofs.Steps.{everywhere_next, puts_next, puts_same}
 use Rattle.key_compile.proofs.entries.put_everywhere.Goals as goal
-
-pub set_entry-requires-clause-exists : goal.set_entry-requires-clause-exists
-set_entry-requires-clause-exists c =
-    union_exists (λ t d. cond (d == c.args.code) (everywhere (take c.loop-i.i c.args.union.now) c.args.action t) None) c.args.union.now c.args.tables.now c.loop-i.tables c.loop-i.i c.requires.exist c.loop-i.invariant c.loop-i-test.true
 
 pub loop-i-preserved : goal.loop-i-preserved
 loop-i-preserved c =
     let before = λ (t d : ℕ). cond (d == c.args.code) (everywhere (take c.loop-i.i c.args.union.now) c.args.action t) None in
-    puts_entry before (λ t d. cond (d == c.args.code) (everywhere (take (c.loop-i.i + 1) c.args.union.now) c.args.action t) None) c.args.tables.now c.loop-i.tables c.set_entry.new.self (get_or c.args.union.now c.loop-i.i 0) c.args.code c.filled_action.result c.loop-i.invariant
-    (union_exists before c.args.union.now c.args.tables.now c.loop-i.tables c.loop-i.i c.requires.exist c.loop-i.invariant c.loop-i-test.true)
-    c.set_entry.ensures.entries c.set_entry.ensures.tables
-    (λ t d. ap (λ x. option_or (cond (t == get_or c.args.union.now c.loop-i.i 0 && d == c.args.code) (Some x) None) (before t d)) c.filled_action.ensures ∙ everywhere_next c.args.union.now c.args.action c.args.code c.loop-i.i c.loop-i-test.true t d)
+    let table = get_or c.args.union.now c.loop-i.i 0 in
+    puts_next before (λ t d. cond (t == table && d == c.args.code) (Some c.filled_action.result) None) (λ t d. cond (d == c.args.code) (everywhere (take (c.loop-i.i + 1) c.args.union.now) c.args.action t) None) c.args.tables.now c.loop-i.tables c.put_one.new.tables
+    (λ t d. ap (λ x. option_or (cond (t == table && d == c.args.code) (Some x) None) (before t d)) c.filled_action.ensures ∙ everywhere_next c.args.union.now c.args.action c.args.code c.loop-i.i c.loop-i-test.true t d)
+    c.loop-i.invariant c.put_one.ensures
 
 pub returns : goal.returns
 returns c =
