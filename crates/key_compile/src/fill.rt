@@ -80,9 +80,7 @@ fn value_with_control(t: u8, v: u16) -> u16
 }
 
 fn other_case(v: u16) -> u16
-    requires { v ≤ 127 }
-    ensures value { result ≡ other_case v }
-    ensures small { result ≤ 127 }
+    ensures { result ≡ other_case v }
 {
     if is_upper(v) {
         v + 32
