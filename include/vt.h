@@ -35,6 +35,7 @@ enum vt_code {
 
 /* ---- A screen (console_codes(4)) ---- */
 
+/* A handle of a screen. */
 struct vt_screen {
     void *at;
 };
@@ -79,6 +80,7 @@ struct vt_state {
     uint8_t repeat;       /* DECARM */
 };
 
+/* A colour of the palette. */
 struct vt_colour {
     uint8_t red, green, blue;
 };
@@ -148,6 +150,7 @@ uint8_t vt_screen_redraw_changes(struct vt_screen *s, uint8_t *text, size_t room
 
 /* ---- A keymap, and a keyboard that types by it (keymaps(5), ioctl_console(2)) ---- */
 
+/* A handle of a keymap and a keyboard. */
 struct vt_keys {
     void *at;
 };
@@ -166,6 +169,7 @@ struct vt_text {
     size_t text_length;
 };
 
+/* The keyboard modes K_RAW to K_OFF, and what Meta does: K_METABIT, K_ESCPREFIX (ioctl_console(2)). */
 enum vt_key_mode { VT_RAW, VT_XLATE, VT_MEDIUMRAW, VT_UNICODE, VT_OFF };
 enum vt_key_meta { VT_METABIT = 3, VT_ESCPREFIX = 4 };
 
@@ -186,6 +190,7 @@ struct vt_modes {
     uint8_t cursor_keys, keypad, repeat, newline;
 };
 
+/* What a scan byte does. */
 enum vt_key_kind {
     VT_KEY_NOTHING,
     VT_KEY_BYTES,         /* `bytes`, of `length` bytes, for the program's input */
@@ -197,6 +202,7 @@ enum vt_key_kind {
     VT_KEY_ATTENTION      /* the secure attention key */
 };
 
+/* The result of a scan byte. */
 struct vt_key {
     uint8_t kind, number;
     uint16_t length;

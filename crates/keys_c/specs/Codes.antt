@@ -5,7 +5,7 @@ use Rattle.std.specs.Prelude.{ℕ}
 abbrev pub OK : ℕ
 OK = 0
 
--- VT_MADE: the handle has a keyboard already
+-- VT_MADE: the handle has something already
 abbrev pub MADE : ℕ
 MADE = 1
 
@@ -13,7 +13,7 @@ MADE = 1
 abbrev pub RANGE : ℕ
 RANGE = 2
 
--- VT_NO_MEMORY
+-- VT_NO_MEMORY: memory ran out
 abbrev pub NO_MEMORY : ℕ
 NO_MEMORY = 3
 
@@ -25,6 +25,6 @@ NOTHING = 4
 abbrev pub NO_ROOM : ℕ
 NO_ROOM = 5
 
--- VT_FAULT: the keymap text has a fault
+-- VT_FAULT: the keymap has a fault
 abbrev pub FAULT : ℕ
 FAULT = 6

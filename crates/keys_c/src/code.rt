@@ -1,9 +1,9 @@
-//! The codes that calls return to C.
+//! The codes that calls return to C: `enum vt_code` of `include/vt.h`.
 
 /// The call succeeded.
 pub(crate) const OK: u8 = 0;
 
-/// The handle has a keyboard already.
+/// The handle has something already.
 pub(crate) const MADE: u8 = 1;
 
 /// A number is out of its range.
@@ -15,8 +15,8 @@ pub(crate) const NO_MEMORY: u8 = 3;
 /// The handle has nothing: it was never made, or it was freed.
 pub(crate) const NOTHING: u8 = 4;
 
-/// The room is too small.
+/// The room is too small; only the length was written.
 pub(crate) const NO_ROOM: u8 = 5;
 
-/// The keymap text has a fault.
+/// The keymap has a fault.
 pub(crate) const FAULT: u8 = 6;
