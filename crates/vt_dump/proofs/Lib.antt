@@ -1,2 +1,3 @@
 mod Printables
+mod Runs
 pub mod Lengths

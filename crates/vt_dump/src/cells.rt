@@ -21,8 +21,8 @@ pub(crate) fn add_cells(form: Form, g: &Grid, out: &mut Bytes)
     }
 }
 
-/// Appends the cells of a row, from left to right.
-pub(crate) fn add_row(form: Form, g: &Grid, y: u8, out: &mut Bytes)
+// Appends the cells of a row, from left to right.
+fn add_row(form: Form, g: &Grid, y: u8, out: &mut Bytes)
     requires row { y < g.now.rows }
     requires room { g.now.cols * most_bytes form ≤ out.old.room }
     ensures grew { Grew (flat_map (cell_bytes form) (row_at g.now y)) out.old out.new }

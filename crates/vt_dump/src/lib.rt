@@ -5,6 +5,8 @@ mod cells;
 mod dumps;
 mod form;
 mod rows;
+mod texts;
 
 pub use dumps::{codes, vcs, vcsa};
-pub use rows::{add_rows, text_row, text_rows};
+pub use rows::{add_row, add_rows, text_row, text_rows};
+pub use texts::is_own_byte;

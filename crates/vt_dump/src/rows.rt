@@ -3,17 +3,10 @@ ghost use Rattle.std.specs.Prelude.{◌≡◌, ◌+◌, ◌*◌, ◌<◌, ◌≤
 ghost use Rattle.vt_dump.specs.Rows.{row_text, rows_text};
 ghost use Rattle.vt_grid.specs.Grid.{row_at};
 
-use crate::cells::add_row;
-use crate::form::Form;
+use crate::texts::{CELL_BYTES, FRAME_BYTES, add_row_text};
 use std::alloc::Global;
 use vt_base::{Bytes, NoMemory};
 use vt_grid::Grid;
-
-/// The most bytes of a cell's text.
-const CELL_BYTES: usize = 4;
-
-/// The bytes of a row's text in addition to its cells.
-const FRAME_BYTES: usize = 3;
 
 /// The rows as text: each is `|`, the characters of its cells in UTF-8, `|` and LF. A code of a control
 /// character or of no character is shown as `?`, and a right half as nothing. This project's own.
@@ -35,6 +28,17 @@ pub fn text_row(alloc: Global, g: &Grid, y: u8) -> Result<Bytes, NoMemory>
     Ok(text)
 }
 
+/// Adds one row as text, as [`text_rows`] writes it.
+pub fn add_row(alloc: Global, text: &mut Bytes, g: &Grid, y: u8) -> Result<(), NoMemory>
+    requires { y < g.now.rows }
+    ensures ok { OnOk result (text.new.bytes ≡ text.old.bytes ++ row_text (row_at g.now y)) }
+    ensures err { OnErr result (text.new ≡ text.old) }
+{
+    text.grow(alloc, usize::from(g.size().cols) * CELL_BYTES + FRAME_BYTES)?;
+    add_row_text(g, y, text);
+    Ok(())
+}
+
 /// Adds the text of the rows.
 pub fn add_rows(alloc: Global, text: &mut Bytes, g: &Grid) -> Result<(), NoMemory>
     ensures ok { OnOk result (text.new.bytes ≡ text.old.bytes ++ rows_text g.now.cells) }
@@ -47,15 +51,4 @@ pub fn add_rows(alloc: Global, text: &mut Bytes, g: &Grid) -> Result<(), NoMemor
         add_row_text(g, y, text);
     }
     Ok(())
-}
-
-fn add_row_text(g: &Grid, y: u8, text: &mut Bytes)
-    requires row { y < g.now.rows }
-    requires room { g.now.cols * CELL_BYTES + FRAME_BYTES ≤ text.old.room }
-    ensures bytes { text.new.bytes ≡ text.old.bytes ++ row_text (row_at g.now y) }
-    ensures most { text.old.room ≤ text.new.room + (g.now.cols * CELL_BYTES + FRAME_BYTES) }
-{
-    text.append(b"|");
-    add_row(Form::Text, g, y, text);
-    text.append(b"|\n");
 }
