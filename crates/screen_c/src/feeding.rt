@@ -3,14 +3,14 @@ ghost use Rattle.std.specs.Prelude.{◌≡◌, ◌<◌, ◌≤◌, ◌+◌, ◌+
 ghost use Rattle.screen_c.specs.Fed.{IsFed};
 ghost use Rattle.screen_c.specs.Held.{with_machine};
 ghost use Rattle.screen_c.specs.Shown.{c_out};
-ghost use Rattle.vt_screen.specs.Run.{after};
+ghost use Rattle.vt_screen.specs.Run.{after, outs_of_option};
 ghost use Rattle.vt_screen.specs.Screen.{Screen};
 ghost use Rattle.vt_units.specs.Run.{Reached};
 
 use crate::codes::{NOTHING, OK};
-use crate::{OwnedScreen, ScreenHandle, VtFed, VtOut};
+use crate::{ScreenHandle, VtFed, VtOut};
 use std::alloc::Global;
-use vt_screen::{Emu, Outs, any_cut};
+use vt_screen::{Emu, SideEffect, any_cut};
 
 /// Runs a text up to its end, or until `outs` is full, and writes its reports, bells and requests to `outs`.
 #[unsafe(no_mangle)]
@@ -31,12 +31,7 @@ pub extern "C" fn vt_screen_feed(
         None => NOTHING,
         Some(owned) => {
             let mut owned = owned;
-            let OwnedScreen {
-                emu,
-                outs: said,
-                ..
-            } = &mut *owned;
-            *fed = feed(emu, bytes, said, outs);
+            *fed = feed(&mut owned.emu, bytes, outs);
             handle.put(owned);
             OK
         }
@@ -54,55 +49,42 @@ pub extern "C" fn vt_screen_write(handle: &mut ScreenHandle, bytes: &[u8], alloc
         None => NOTHING,
         Some(owned) => {
             let mut owned = owned;
-            let OwnedScreen {
-                emu,
-                outs: said,
-                ..
-            } = &mut *owned;
-            write(emu, bytes, said);
+            owned.emu.write(bytes);
             handle.put(owned);
             OK
         }
     }
 }
 
-// Runs a text up to its end, or until the places are full. `said` is room for one out.
-fn feed(emu: &mut Emu, b: &[u8], said: &mut Outs, places: &mut [VtOut]) -> VtFed
+// Runs a text up to its end, or until the places are full.
+fn feed(emu: &mut Emu, b: &[u8], places: &mut [VtOut]) -> VtFed
     ensures { IsFed emu.old b.now places.old places.new result emu.new }
 {
     any_cut();
+    let mut effect = SideEffect::new();
     let mut at = 0;
     let mut n = 0;
     while n < places.len() && at < b.len() {
-        at += emu.write_until(&b[at..], said);
-        n += put_said(said, places, n);
+        at += emu.write_until(&b[at..], &mut effect);
+        n += put_effect(&effect, places, n);
     }
     VtFed { taken: at, said: n }
 }
 
-// Writes at most one out into a place, and returns the number of places written.
-fn put_said(said: &Outs, places: &mut [VtOut], n: usize) -> usize
-    requires one { length said.now ≤ 1 }
+// Writes a side effect, if there is one, into a place. Returns the number of places that were written.
+fn put_effect(effect: &SideEffect, places: &mut [VtOut], n: usize) -> usize
     requires room { n < length places.old }
-    ensures count { result ≡ length said.now }
+    ensures count { result ≡ length (outs_of_option effect.now) }
+    ensures one { result ≤ 1 }
     ensures size { length places.new ≡ length places.old }
-    ensures places { places.new ≡ take n places.old ++ (map c_out said.now ++ drop (n + length said.now) places.old) }
+    ensures places { places.new ≡ take n places.old ++ (map c_out (outs_of_option effect.now)
+        ++ drop (n + length (outs_of_option effect.now)) places.old) }
 {
-    let list = said.as_slice();
-    if list.len() == 0 {
-        return 0;
-    }
-    places[n] = VtOut::of(&list[0]);
-    1
-}
-
-// Runs a text, and drops its outs. `said` is room for one out.
-fn write(emu: &mut Emu, b: &[u8], said: &mut Outs)
-    ensures { emu.new ≡ after emu.old b.now }
-{
-    any_cut();
-    let mut at = 0;
-    while at < b.len() {
-        at += emu.write_until(&b[at..], said);
+    match effect.get() {
+        None => 0,
+        Some(out) => {
+            places[n] = VtOut::of(out);
+            1
+        }
     }
 }

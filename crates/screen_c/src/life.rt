@@ -9,7 +9,7 @@ use crate::{OwnedScreen, ScreenHandle};
 use std::alloc::Global;
 use vt_base::{NoMemory, Size};
 use vt_grid::Grid;
-use vt_screen::{BLANK, Emu, Outs};
+use vt_screen::{BLANK, Emu};
 
 /// Makes a start screen of this many rows and columns, 1 to 255 each.
 #[unsafe(no_mangle)]
@@ -88,7 +88,6 @@ impl OwnedScreen {
             alloc,
             OwnedScreen {
                 emu: Emu::new(grid),
-                outs: Outs::new(),
                 mark: None,
             },
         )?;

@@ -1,13 +1,11 @@
 use std::marker::Model;
 use vt_grid::Grid;
-use vt_screen::{Emu, Outs};
+use vt_screen::Emu;
 
-/// The value that a handle owns: a screen, the list of its outs, whose memory is used again at each call, and the
-/// marked cells, if any.
+/// The value that a handle owns: a screen, and the marked cells, if any.
 #[derive(Drop)]
 pub struct OwnedScreen {
     pub(crate) emu: Emu,
-    pub(crate) outs: Outs,
     pub(crate) mark: Option<Grid>,
 }
 

@@ -30,5 +30,6 @@ pub use outs::Outs;
 pub use report_text::ReportText;
 pub use saved::Saved;
 pub use screen_state::ScreenState;
+pub use side_effect::SideEffect;
 pub use stops::Stops;
 pub use text_laws::text_fills_rows;

@@ -1,11 +1,11 @@
-ghost use Rattle.std.specs.Prelude.{◌≡◌, None, Some, is_none};
+ghost use Rattle.std.specs.Prelude.{◌≡◌, None, Some, is_none, option_copied};
 
 use crate::Out;
 use std::marker::Model;
 
-/// The side effect of a unit, if it has one. Contracts see an `Option`; clearing it writes one byte.
+/// The side effect of a unit or of a text, if it has one. Contracts see an `Option`; clearing it writes one byte.
 #[derive(Drop)]
-pub(crate) struct SideEffect {
+pub struct SideEffect {
     holds: bool,
     out: Out,
 }
@@ -20,13 +20,21 @@ impl Model for SideEffect {
 }
 
 impl SideEffect {
-    pub(crate) fn new() -> SideEffect
+    /// No side effect.
+    pub fn new() -> SideEffect
         ensures { result ≡ None }
     {
         SideEffect {
             holds: false,
             out: Out::Bell,
         }
+    }
+
+    /// The side effect, if there is one.
+    pub fn get(&self) -> Option<&Out>
+        ensures { option_copied result ≡ self.now }
+    {
+        if self.holds { Some(&self.out) } else { None }
     }
 
     #[inline(always)]

@@ -1,9 +1,9 @@
 //! A text of any length.
-ghost use Rattle.std.specs.Prelude.{◌≡◌, ◌≤◌, [], length, take};
-ghost use Rattle.vt_screen.specs.Run.{after, outs_of_run};
+ghost use Rattle.std.specs.Prelude.{◌≡◌, ◌≤◌, None, length, take};
+ghost use Rattle.vt_screen.specs.Run.{after, outs_of_option, outs_of_run};
 
 use crate::side_effect::SideEffect;
-use crate::{Emu, Outs, any_cut};
+use crate::{Emu, any_cut};
 
 impl Emu {
     /// Runs a text of any length on the screen, as [`Emu::feed`] runs its pieces. The side effects are
@@ -21,21 +21,18 @@ impl Emu {
     }
 
     /// Runs a text of any length on the screen up to its first side effect, or to its end. Returns the
-    /// number of bytes that were run; `outs` then has their side effects alone.
-    pub fn write_until(&mut self, b: &[u8], outs: &mut Outs) -> usize
+    /// number of bytes that were run; `effect` then is their side effect, if they have one.
+    pub fn write_until(&mut self, b: &[u8], effect: &mut SideEffect) -> usize
         ensures within { result ≤ length b.now }
         ensures screen { self.new ≡ after self.old (take result b.now) }
-        ensures outs { outs.new ≡ outs_of_run self.old (take result b.now) }
-        ensures one { length outs.new ≤ 1 }
-        ensures all { outs.new ≡ [] → result ≡ length b.now }
+        ensures effect { outs_of_option effect.new ≡ outs_of_run self.old (take result b.now) }
+        ensures all { effect.new ≡ None → result ≡ length b.now }
     {
-        outs.clear();
-        let mut said = SideEffect::new();
+        effect.clear();
         let mut at = 0;
-        while at < b.len() && said.is_none() {
-            at += self.take_prefix(&b[at..], &mut said);
+        while at < b.len() && effect.is_none() {
+            at += self.take_prefix(&b[at..], effect);
         }
-        outs.say(said);
         at
     }
 }

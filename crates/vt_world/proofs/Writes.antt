@@ -1,7 +1,7 @@
 -- A text that is run on a console piece by piece.
-use Rattle.std.proofs.Common.{◌≡◌, ◌≤◌, ℕ, zero, suc, ◌+◌, ◌*◌, cond, take, arith, List, [], ◌∷◌, ◌++◌, length, get_or, set, Option, Some, None, true, leb, refl, sym, ap, ◌∙◌, append-nil}
+use Rattle.std.proofs.Common.{◌≡◌, ◌≤◌, ℕ, zero, suc, ◌+◌, ◌*◌, cond, arith, List, [], ◌∷◌, ◌++◌, length, get_or, set, Option, Some, None, true, leb, refl, sym, ap, ◌∙◌}
 use Rattle.std.proofs.lemmas.Grind.{flat_map-append}
-use Rattle.std.proofs.lemmas.List.Sums.{sum_by-append, sum_by-take-le}
+use Rattle.std.proofs.lemmas.List.Sums.{sum_by-append}
 use Rattle.std.specs.List.{flat_map}
 use Rattle.std.specs.Prelude.{Ok, option_map}
 use Rattle.vt_screen.specs.Asking.{RequestsAreFew, asks, requests}
@@ -40,13 +40,6 @@ pub heard-append : (c : ℕ) (xs ys : List Out) (w : WorldState)
 heard-append c xs ys w =
     sym (apply_deeds-append w (flat_map (out_deeds c) xs) (flat_map (out_deeds c) ys))
     ∙ ap (apply_deeds w) (sym (flat_map-append (out_deeds c) xs ys))
-
--- one more side effect
-pub heard_more : (c : ℕ) (xs : List Out) (x : Out) (w : WorldState)
-    → apply_deeds (heard c xs w) (out_deeds c x) ≡ heard c (xs ++ x ∷ []) w
-heard_more c xs x w =
-    ap (apply_deeds (heard c xs w)) (sym (append-nil (out_deeds c x)))
-    ∙ heard-append c xs (x ∷ []) w
 
 -- marks draw nothing
 apply_marks_terminals : (w : WorldState) (marks : List Mark) → (apply_marks w marks).terminals ≡ w.terminals
@@ -183,15 +176,6 @@ pub asks_few : RequestsAreFew → (o : Option TerminalState) (bytes : List ℕ)
     → 4 * requests (said_of o bytes) ≤ length bytes + 3
 asks_few law None bytes = omega arith
 asks_few law (Some t) bytes = law t.machine bytes
-
--- the first of several side effects request no more than all
-pub front_asks : (i : ℕ) (all : List Out) → requests (take i all) ≤ requests all
-front_asks i all = sum_by-take-le (λ (o : Out). cond (asks o) 1 0) all i
-
--- one more side effect
-pub one_more_asks : (xs : List Out) (x : Out)
-    → requests (xs ++ x ∷ []) ≡ requests xs + requests (x ∷ [])
-one_more_asks xs x = requests-append xs (x ∷ [])
 
 -- a write that isn't refused
 pub write_has : (w : WorldState) (p fd : ℕ) (b : Text) (c : ℕ) (text : List ℕ) (w' : WorldState)

@@ -1,12 +1,12 @@
-ghost use Rattle.std.specs.Prelude.{◌≡◌, ◌≤◌, [], length};
-ghost use Rattle.vt_screen.specs.Run.{outs_of_run};
+ghost use Rattle.std.specs.Prelude.{◌≡◌, ◌≤◌, ◌<◌, length, take};
+ghost use Rattle.vt_screen.specs.Run.{outs_of_option, outs_of_run};
 ghost use Rattle.vt_screen.specs.Tape.{palette, resize, user_map};
-ghost use Rattle.vt_world.specs.Terminals.{altered_by, new_terminal, bell_count_after, written_on};
+ghost use Rattle.vt_world.specs.Terminals.{altered_by, new_terminal, written_on};
 
 use std::marker::Model;
 use vt_cells::Palette;
 use vt_grid::Grid;
-use vt_screen::{Emu, Out, Outs};
+use vt_screen::{Emu, Out, SideEffect};
 
 /// The terminal of a console: its screen, and its count of BELs.
 #[derive(Drop)]
@@ -51,17 +51,19 @@ impl Terminal {
         self.bells
     }
 
-    /// Runs at most 64 bytes on the screen, and counts their BELs. All their side effects are in
-    /// `outs`.
-    pub(crate) fn feed(&mut self, b: &[u8], outs: &mut Outs)
-        requires short { length b.now ≤ 64 }
-        requires empty { outs.old ≡ [] }
-        ensures terminal { self.new ≡ written_on b.now self.old }
-        ensures outs { outs.new ≡ outs_of_run self.old.machine b.now }
-        ensures few { length outs.new ≤ length b.now }
+    /// Runs a text on the screen up to its first side effect, or to its end, and counts its BEL. Returns the
+    /// number of bytes that were run; `effect` then is their side effect, if they have one.
+    pub(crate) fn write(&mut self, b: &[u8], effect: &mut SideEffect) -> usize
+        ensures within { result ≤ length b.now }
+        ensures moves { 0 < length b.now → 0 < result }
+        ensures terminal { self.new ≡ written_on (take result b.now) self.old }
+        ensures effect { outs_of_option effect.new ≡ outs_of_run self.old.machine (take result b.now) }
     {
-        self.emu.feed(b, outs);
-        self.bells = bell_count_after(self.bells, outs.as_slice());
+        let count = self.emu.write_until(b, effect);
+        if let Some(Out::Bell) = effect.get() {
+            self.bells = self.bells.saturating_add(1);
+        }
+        count
     }
 
     /// Resizes the screen onto this grid. Returns the old grid.
@@ -84,17 +86,4 @@ impl Terminal {
     {
         *self.emu.palette_mut() = colours;
     }
-}
-
-// The count of BELs after these side effects.
-fn bell_count_after(bells: u32, said: &[Out]) -> u32
-    ensures { result ≡ bell_count_after bells said.now }
-{
-    let mut bells = bells;
-    for out in said {
-        if matches!(out, Out::Bell) {
-            bells = bells.saturating_add(1);
-        }
-    }
-    bells
 }

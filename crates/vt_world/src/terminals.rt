@@ -1,5 +1,6 @@
-ghost use Rattle.std.specs.Prelude.{◌≡◌, ◌≤◌, [], Some, None, IfOk, length, is_some, option_copied, if◌then◌else◌};
+ghost use Rattle.std.specs.Prelude.{◌≡◌, ◌≤◌, ◌<◌, Some, None, IfOk, length, take, is_some, option_copied, if◌then◌else◌};
 ghost use Rattle.vt_base.specs.ConsoleSet.{at_each};
+ghost use Rattle.vt_screen.specs.Run.{outs_of_option};
 ghost use Rattle.vt_screen.specs.Tape.{palette, resize, user_map};
 ghost use Rattle.vt_world.specs.Terminals.{after_screen_change, new_terminal, said_of, terminal_at, with_start, without_terminal, after_write};
 
@@ -10,7 +11,7 @@ use std::marker::Model;
 use vt_base::{ConsoleNo, NoMemory, Size, is_among};
 use vt_cells::Palette;
 use vt_grid::Grid;
-use vt_screen::{BLANK, Outs};
+use vt_screen::{BLANK, SideEffect};
 
 /// The terminals of the consoles, by their numbers. Place 0 stays unused.
 #[derive(Drop)]
@@ -67,17 +68,21 @@ impl Terminals {
         self.places[usize::from(c.get())] = None;
     }
 
-    /// Writes at most 64 bytes to the console, if it has a terminal. Their side effects are in
-    /// `outs`.
-    pub(crate) fn write(&mut self, c: ConsoleNo, b: &[u8], outs: &mut Outs)
-        requires short { length b.now ≤ 64 }
-        requires empty { outs.old ≡ [] }
-        ensures terminals { self.new ≡ after_write c b.now self.old }
-        ensures outs { outs.new ≡ said_of (terminal_at self.old c) b.now }
-        ensures few { length outs.new ≤ length b.now }
+    /// Writes to the console up to the text's first side effect, or to its end; to its end too if the
+    /// console has no terminal. Returns the number of bytes that were written; `effect` then is their side
+    /// effect, if they have one.
+    pub(crate) fn write(&mut self, c: ConsoleNo, b: &[u8], effect: &mut SideEffect) -> usize
+        ensures within { result ≤ length b.now }
+        ensures moves { 0 < length b.now → 0 < result }
+        ensures terminals { self.new ≡ after_write c (take result b.now) self.old }
+        ensures effect { outs_of_option effect.new ≡ said_of (terminal_at self.old c) (take result b.now) }
     {
-        if let Some(terminal) = &mut self.places[usize::from(c.get())] {
-            terminal.feed(b, outs);
+        match &mut self.places[usize::from(c.get())] {
+            Some(terminal) => terminal.write(b, effect),
+            None => {
+                *effect = SideEffect::new();
+                b.len()
+            }
         }
     }
 

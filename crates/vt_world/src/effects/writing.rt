@@ -1,7 +1,8 @@
 //! Texts that are written to a console.
-ghost use Rattle.std.specs.Prelude.{◌≡◌, ◌≤◌, ◌+◌, ◌*◌, [], ◌∷◌, length};
+ghost use Rattle.std.specs.Prelude.{◌≡◌, ◌≤◌, ◌<◌, ◌+◌, ◌*◌, ℕ, [], ◌∷◌, length, take};
 ghost use Rattle.std.specs.List.{flat_map};
 ghost use Rattle.vt_screen.specs.Asking.{requests};
+ghost use Rattle.vt_screen.specs.Run.{outs_of_option};
 ghost use Rattle.vt_world.specs.Deeds.{apply_deeds};
 ghost use Rattle.vt_world.specs.Rows.{out_deeds, write_deeds};
 ghost use Rattle.vt_world.specs.Terminals.{said_of, terminal_at};
@@ -10,7 +11,7 @@ use crate::World;
 use crate::trace::MOST_MARKS;
 use crate::wanted::Wanted;
 use vt_base::ConsoleNo;
-use vt_screen::{FEED_BYTES, Out, Outs, any_cut, requests_are_few};
+use vt_screen::{Out, SideEffect, any_cut, requests_are_few};
 
 impl World {
     /// Runs a text on a console, and carries out its side effects.
@@ -21,39 +22,37 @@ impl World {
     {
         any_cut();
         requests_are_few();
-        let mut outs = Outs::new();
-        let mut at = b.len().min(FEED_BYTES);
-        self.run_piece(c, &b[..at], &mut outs);
+        let mut effect = SideEffect::new();
+        let mut at = self.run_part(c, b, &mut effect);
         while at < b.len() {
-            let end = b.len().min(at + FEED_BYTES);
-            self.run_piece(c, &b[at..end], &mut outs);
-            at = end;
+            at += self.run_part(c, &b[at..], &mut effect);
         }
     }
 
-    // Runs at most 64 bytes on a console, and carries out their side effects. The old contents of
-    // `outs` are dropped.
-    fn run_piece(&mut self, c: ConsoleNo, b: &[u8], outs: &mut Outs)
-        requires short { length b.now ≤ 64 }
-        requires room { length self.old.trace.marks
-            + 3 * requests (said_of (terminal_at self.old.terminals c) b.now) ≤ MOST_MARKS }
-        ensures state { self.new ≡ apply_deeds self.old (write_deeds self.old c b.now) }
+    // Runs a text on a console up to its first side effect, or to its end, and carries out the side effect.
+    // Returns the number of bytes that were run. `effect` is a place for the side effect.
+    fn run_part(&mut self, c: ConsoleNo, b: &[u8], effect: &mut SideEffect) -> usize
+        requires room { (n : ℕ) → length self.old.trace.marks
+            + 3 * requests (said_of (terminal_at self.old.terminals c) (take n b.now)) ≤ MOST_MARKS }
+        ensures within { result ≤ length b.now }
+        ensures moves { 0 < length b.now → 0 < result }
+        ensures state { self.new ≡ apply_deeds self.old (write_deeds self.old c (take result b.now)) }
         ensures room { length self.new.trace.marks ≤ length self.old.trace.marks
-            + 3 * requests (said_of (terminal_at self.old.terminals c) b.now) }
+            + 3 * requests (said_of (terminal_at self.old.terminals c) (take result b.now)) }
     {
-        outs.clear();
-        self.terminals.write(c, b, outs);
-        self.take_outs(c, outs.as_slice());
+        let count = self.terminals.write(c, b, effect);
+        self.take_effect(c, effect);
+        count
     }
 
-    // Carries out the side effects of a text on a console, in order.
-    fn take_outs(&mut self, c: ConsoleNo, outs: &[Out])
-        requires { length self.old.trace.marks + 3 * requests outs.now ≤ MOST_MARKS }
-        ensures state { self.new ≡ apply_deeds self.old (flat_map (out_deeds c) outs.now) }
+    // Carries out the side effect of a text on a console, if there is one.
+    fn take_effect(&mut self, c: ConsoleNo, effect: &SideEffect)
+        requires { length self.old.trace.marks + 3 * requests (outs_of_option effect.now) ≤ MOST_MARKS }
+        ensures state { self.new ≡ apply_deeds self.old (flat_map (out_deeds c) (outs_of_option effect.now)) }
         ensures room { length self.new.trace.marks
-            ≤ length self.old.trace.marks + 3 * requests outs.now }
+            ≤ length self.old.trace.marks + 3 * requests (outs_of_option effect.now) }
     {
-        for out in outs {
+        if let Some(out) = effect.get() {
             self.take_out(c, out);
         }
     }

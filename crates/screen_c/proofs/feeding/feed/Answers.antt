@@ -2,7 +2,7 @@ use Rattle.std.proofs.Common.{◌≡◌, ℕ, ◌+◌, ◌++◌, List, ap, sym, 
 use Rattle.screen_c.proofs.Pieces.{count_more, outs_more, places_more, screen_more}
 use Rattle.screen_c.specs.Shown.{c_out}
 use Rattle.screen_c.specs.declared.vt_out.VtOut.{VtOut}
-use Rattle.vt_screen.specs.Run.{outs_of_run}
+use Rattle.vt_screen.specs.Run.{outs_of_option, outs_of_run}
 use Rattle.vt_screen.specs.declared.out.Out.{Out}
 use Rattle.screen_c.proofs.feeding.feed.Goals as goal
 
@@ -13,12 +13,12 @@ loop-n-preserved c =
     let at : ℕ = c.loop-n.at in
     let n : ℕ = c.loop-n.n in
     let m : ℕ = c.write_until-at.result in
-    let k : ℕ = c.put_said-n.result in
+    let k : ℕ = c.put_effect-n.result in
     let before : List Out = outs_of_run c.args.emu.now (take at text) in
-    let more : List Out = c.write_until-at.new.outs in
+    let more : List Out = outs_of_option c.write_until-at.new.effect in
     let all : List Out = outs_of_run c.args.emu.now (take (at + m) text) in
     let whole : before ++ more ≡ all =
-    ap (λ (xs : List Out). before ++ xs) c.write_until-at.ensures.outs
+    ap (λ (xs : List Out). before ++ xs) c.write_until-at.ensures.effect
     ∙ outs_more c.any_cut.ensures c.args.emu.now c.loop-n.emu at m text c.loop-n.invariant.screen in
     record {
       within = omega (arith, c.write_until-at.ensures.within, length-drop at text);
@@ -26,17 +26,16 @@ loop-n-preserved c =
           omega (
             arith,
             c.loop-n-test.true,
-            c.write_until-at.ensures.one,
-            c.put_said-n.ensures.count,
-            c.put_said-n.ensures.size,
+            c.put_effect-n.ensures.one,
+            c.put_effect-n.ensures.size,
           );
-      size = c.put_said-n.ensures.size ∙ c.loop-n.invariant.size;
+      size = c.put_effect-n.ensures.size ∙ c.loop-n.invariant.size;
       screen =
           c.write_until-at.ensures.screen
           ∙ screen_more c.any_cut.ensures c.args.emu.now c.loop-n.emu at m text c.loop-n.invariant.screen;
-      count = count_more before more all n k c.loop-n.invariant.count c.put_said-n.ensures.count whole;
+      count = count_more before more all n k c.loop-n.invariant.count c.put_effect-n.ensures.count whole;
       places =
-          c.put_said-n.ensures.places
+          c.put_effect-n.ensures.places
           ∙ places_more before more all start c.loop-n.places n c.loop-n.invariant.count c.loop-n.invariant.places whole
-          ∙ ap (λ (j : ℕ). map c_out all ++ drop (n + j) start) (sym c.put_said-n.ensures.count);
+          ∙ ap (λ (j : ℕ). map c_out all ++ drop (n + j) start) (sym c.put_effect-n.ensures.count);
     }

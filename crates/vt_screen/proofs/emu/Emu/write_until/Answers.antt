@@ -14,11 +14,11 @@ loop-at-preserved c =
     let next =
     runs_on c.args.b.now c.loop-at.at c.take_prefix-at.result c.args.self.now c.loop-at.self c.take_prefix-at.new.self
     c.take_prefix-at.new.said c.loop-at.invariant.done c.take_prefix-at.ensures.ran in
-    let nothing : outs_of_option c.loop-at.said ≡ [] = no_outs c.loop-at.said (sym c.is_none.ensures ∙ c.if-is_none.true) in
+    let nothing : outs_of_option c.loop-at.effect ≡ [] = no_outs c.loop-at.effect (sym c.is_none.ensures ∙ c.if-is_none.true) in
     record {
       within = omega (arith, c.take_prefix-at.ensures.ran.0, ap length (take_rest c.args.b.now c.loop-at.at), length-drop c.loop-at.at c.args.b.now);
       done = next.0;
-      outs =
-          ap (λ (outs : List Out). outs ++ outs_of_option c.take_prefix-at.new.said) (sym nothing ∙ c.loop-at.invariant.outs)
+      effect =
+          ap (λ (outs : List Out). outs ++ outs_of_option c.take_prefix-at.new.said) (sym nothing ∙ c.loop-at.invariant.effect)
           ∙ next.1;
     }

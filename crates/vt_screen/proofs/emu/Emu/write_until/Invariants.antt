@@ -6,7 +6,7 @@ abbrev pub invariant-loop-at : goal.invariant-loop-at
 invariant-loop-at l = record {
   within : l.at ≤ length l.b;
   done : l.self ≡ after l.fn.self (take l.at l.b);
-  outs : outs_of_option l.said ≡ outs_of_run l.fn.self (take l.at l.b);
+  effect : outs_of_option l.effect ≡ outs_of_run l.fn.self (take l.at l.b);
 }
 
 abbrev pub decreases-loop-at : goal.decreases-loop-at
