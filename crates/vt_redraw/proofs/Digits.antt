@@ -6,29 +6,18 @@ use Rattle.vt_cells.specs.AttrByte.{vga}
 use Rattle.vt_redraw.specs.Pending.{end_of_byte, start_of_byte}
 use Rattle.vt_redraw.specs.Sequences.{byte_text, sequence}
 
-from_thirty : (c : ℕ) → c < 8 → decimal (30 + c) ≡ 0x33 ∷ (0x30 + c) ∷ []
+from_tens : (c : ℕ) → c < 8
+    → (decimal (30 + c) ≡ 0x33 ∷ (0x30 + c) ∷ []) × (decimal (40 + c) ≡ 0x34 ∷ (0x30 + c) ∷ [])
 unfolding digits
-from_thirty zero h = refl
-from_thirty (suc zero) h = refl
-from_thirty (suc (suc zero)) h = refl
-from_thirty (suc (suc (suc zero))) h = refl
-from_thirty (suc (suc (suc (suc zero)))) h = refl
-from_thirty (suc (suc (suc (suc (suc zero))))) h = refl
-from_thirty (suc (suc (suc (suc (suc (suc zero)))))) h = refl
-from_thirty (suc (suc (suc (suc (suc (suc (suc zero))))))) h = refl
-from_thirty (suc (suc (suc (suc (suc (suc (suc (suc c)))))))) h = absurd (omega (arith, h))
-
-from_forty : (c : ℕ) → c < 8 → decimal (40 + c) ≡ 0x34 ∷ (0x30 + c) ∷ []
-unfolding digits
-from_forty zero h = refl
-from_forty (suc zero) h = refl
-from_forty (suc (suc zero)) h = refl
-from_forty (suc (suc (suc zero))) h = refl
-from_forty (suc (suc (suc (suc zero)))) h = refl
-from_forty (suc (suc (suc (suc (suc zero))))) h = refl
-from_forty (suc (suc (suc (suc (suc (suc zero)))))) h = refl
-from_forty (suc (suc (suc (suc (suc (suc (suc zero))))))) h = refl
-from_forty (suc (suc (suc (suc (suc (suc (suc (suc c)))))))) h = absurd (omega (arith, h))
+from_tens zero h = (refl, refl)
+from_tens (suc zero) h = (refl, refl)
+from_tens (suc (suc zero)) h = (refl, refl)
+from_tens (suc (suc (suc zero))) h = (refl, refl)
+from_tens (suc (suc (suc (suc zero)))) h = (refl, refl)
+from_tens (suc (suc (suc (suc (suc zero))))) h = (refl, refl)
+from_tens (suc (suc (suc (suc (suc (suc zero)))))) h = (refl, refl)
+from_tens (suc (suc (suc (suc (suc (suc (suc zero))))))) h = (refl, refl)
+from_tens (suc (suc (suc (suc (suc (suc (suc (suc c)))))))) h = absurd (omega (arith, h))
 
 pub byte_text_is : (b : ℕ) → vga (b % 8) < 8 → vga (b / 16 % 8) < 8 → byte_text b ≡ start_of_byte b ++ end_of_byte b
 unfolding byte_text digits
@@ -37,7 +26,7 @@ byte_text_is b fg bg = by (b / 8 % 2 == 1) (b / 128 == 1)
     by : (bold blink : Bool)
         → sequence 0 ((if bold then 1 ∷ [] else []) ++ ((if blink then 5 ∷ [] else []) ++ (30 + vga (b % 8)) ∷ (40 + vga (b / 16 % 8)) ∷ [])) 0x6D
         ≡ (0x1B ∷ 0x5B ∷ 0x30 ∷ 0x3B ∷ (if bold then 0x31 ∷ 0x3B ∷ [] else []) ++ ((if blink then 0x35 ∷ 0x3B ∷ [] else []) ++ 0x33 ∷ [])) ++ end_of_byte b
-    by true true = λ i. 0x1B ∷ 0x5B ∷ (decimal 0 ++ (0x3B ∷ decimal 1 ++ (0x3B ∷ decimal 5 ++ (0x3B ∷ from_thirty (vga (b % 8)) fg i ++ (0x3B ∷ from_forty (vga (b / 16 % 8)) bg i ++ []))))) ++ 0x6D ∷ []
-    by true false = λ i. 0x1B ∷ 0x5B ∷ (decimal 0 ++ (0x3B ∷ decimal 1 ++ (0x3B ∷ from_thirty (vga (b % 8)) fg i ++ (0x3B ∷ from_forty (vga (b / 16 % 8)) bg i ++ [])))) ++ 0x6D ∷ []
-    by false true = λ i. 0x1B ∷ 0x5B ∷ (decimal 0 ++ (0x3B ∷ decimal 5 ++ (0x3B ∷ from_thirty (vga (b % 8)) fg i ++ (0x3B ∷ from_forty (vga (b / 16 % 8)) bg i ++ [])))) ++ 0x6D ∷ []
-    by false false = λ i. 0x1B ∷ 0x5B ∷ (decimal 0 ++ (0x3B ∷ from_thirty (vga (b % 8)) fg i ++ (0x3B ∷ from_forty (vga (b / 16 % 8)) bg i ++ []))) ++ 0x6D ∷ []
+    by true true = λ i. 0x1B ∷ 0x5B ∷ (decimal 0 ++ (0x3B ∷ decimal 1 ++ (0x3B ∷ decimal 5 ++ (0x3B ∷ (from_tens (vga (b % 8)) fg).0 i ++ (0x3B ∷ (from_tens (vga (b / 16 % 8)) bg).1 i ++ []))))) ++ 0x6D ∷ []
+    by true false = λ i. 0x1B ∷ 0x5B ∷ (decimal 0 ++ (0x3B ∷ decimal 1 ++ (0x3B ∷ (from_tens (vga (b % 8)) fg).0 i ++ (0x3B ∷ (from_tens (vga (b / 16 % 8)) bg).1 i ++ [])))) ++ 0x6D ∷ []
+    by false true = λ i. 0x1B ∷ 0x5B ∷ (decimal 0 ++ (0x3B ∷ decimal 5 ++ (0x3B ∷ (from_tens (vga (b % 8)) fg).0 i ++ (0x3B ∷ (from_tens (vga (b / 16 % 8)) bg).1 i ++ [])))) ++ 0x6D ∷ []
+    by false false = λ i. 0x1B ∷ 0x5B ∷ (decimal 0 ++ (0x3B ∷ (from_tens (vga (b % 8)) fg).0 i ++ (0x3B ∷ (from_tens (vga (b / 16 % 8)) bg).1 i ++ []))) ++ 0x6D ∷ []
