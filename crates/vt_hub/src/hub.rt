@@ -146,7 +146,10 @@ impl<J: Opening> Hub<J> {
         let mut event = event;
         let mut spare = spare;
         match self.turn(rt, p, &mut event, &mut spare) {
-            Some(answer) => answer,
+            Some(answer) => {
+                spare.keep_grid(&mut p.kept);
+                answer
+            }
             None => unreachable!(),
         }
     }
@@ -194,7 +197,7 @@ impl<J: Opening> Hub<J> {
         let mut held = self.lock.enter(rt, &mut p.place);
         let shared = held.value();
         shared.sound();
-        let answer = shared.call(self.alloc, number, seq, event, spare, &mut p.kept);
+        let answer = shared.call(number, seq, event, spare);
         shared.sound();
         let ended = shared.ended();
         match answer {

@@ -16,7 +16,6 @@ use std::mem;
 use turn_lock::Seal;
 use vt_base::{CallerNo, NoMemory};
 use vt_events::{Entry, Event, charge};
-use vt_grid::Grid;
 use vt_journal::{Full, Log};
 use vt_world::{
     Spare, World, displays_are_lawful_from, legal_grows, sizes_stay, tickets_are_called,
@@ -81,16 +80,13 @@ impl<J: Opening> Shared<J> {
     }
 
     /// One look of a caller that has made `seq` calls: it enters its next call, unless the hub has
-    /// stopped, its ticket is open, or there is no room. If there is none, the hub stops. A grid that the
-    /// call doesn't use is kept.
+    /// stopped, its ticket is open, or there is no room. If there is none, the hub stops.
     pub(crate) fn call(
         &mut self,
-        alloc: Global,
         caller: CallerNo,
         seq: u32,
         event: &mut Event,
         spare: &mut Spare,
-        kept: &mut Option<Grid>,
     ) -> Option<Answer>
         requires fits { Fits J.start.rows J.start.cols event.old spare.old }
         requires number { seq ≡ length (made_by caller self.old.log.entries) }
@@ -117,8 +113,7 @@ impl<J: Opening> Shared<J> {
             });
             return Some(Answer::Full(full));
         }
-        let spare = mem::replace(spare, Spare::none(alloc));
-        Some(self.enter(caller, seq, event, charge, spare, kept))
+        Some(self.enter(caller, seq, event, charge, spare))
     }
 
     // Enters the call, which has that charge.
@@ -128,10 +123,9 @@ impl<J: Opening> Shared<J> {
         seq: u32,
         event: &mut Event,
         charge: u32,
-        spare: Spare,
-        kept: &mut Option<Grid>,
+        spare: &mut Spare,
     ) -> Answer
-        requires fits { Fits self.old.world.rows self.old.world.cols event.old spare }
+        requires fits { Fits self.old.world.rows self.old.world.cols event.old spare.old }
         requires number { seq ≡ length (made_by caller self.old.log.entries) }
         requires open { self.old.stop ≡ None }
         requires free { is_waiting self.old.world caller ≡ false }
@@ -145,8 +139,7 @@ impl<J: Opening> Shared<J> {
         self.sound();
         let state = &mut *self.state;
         let at = state.log.entries().len() as u32;
-        let (reply, unused, grid) = state.world.step_with_rest(caller, event, spare);
-        keep(kept, grid);
+        let reply = state.world.step_with(caller, event, spare);
         let _front = state.world.display().get();
         let waits = state.waits.after(&state.world, caller);
         state.ended = state.waits.without(waits);
@@ -155,7 +148,7 @@ impl<J: Opening> Shared<J> {
             caller,
             seq,
             event: mem::replace(event, Event::WaitEnd),
-            reply: reply.copy_into(unused),
+            reply: spare.copy(&reply),
         };
         state.log.push_counted(entry, charge);
         Answer::Done { at, reply }
@@ -184,12 +177,5 @@ impl<J: Opening> Shared<J> {
             None => None,
         };
         (world, log, stop)
-    }
-}
-
-// Keeps a grid, if there is one.
-fn keep(kept: &mut Option<Grid>, grid: Option<Grid>) {
-    if grid.is_some() {
-        *kept = grid;
     }
 }

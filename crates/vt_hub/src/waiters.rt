@@ -1,10 +1,10 @@
 use vt_base::CallerNo;
 use vt_world::World;
 
-/// Processes whose tickets are open, or were: a bit for each number.
+/// Processes whose tickets are open, or were: a bit for each of the 64.
 #[derive(Clone, Copy)]
 pub(crate) struct Waiters {
-    bits: u128,
+    bits: u64,
 }
 
 impl Waiters {
@@ -45,6 +45,7 @@ impl Waiters {
     }
 }
 
-fn bit(caller: CallerNo) -> u128 {
-    1 << caller.get()
+// Process 64 has bit 0. A keyboard never waits.
+fn bit(caller: CallerNo) -> u64 {
+    1 << (caller.get() % 64)
 }

@@ -1,11 +1,13 @@
-ghost use Rattle.std.specs.Prelude.{◌≡◌, ◌↔◌, IfOk, OnErr, IsTrue, Some, None, is_some, option_map, if◌then◌else◌};
-ghost use Rattle.vt_events.specs.Charge.{greatest_reply};
+ghost use Rattle.std.specs.Prelude.{◌≡◌, ◌≤◌, ◌↔◌, IfOk, OnErr, IsTrue, Some, None, is_some, length, option_map, if◌then◌else◌};
+ghost use Rattle.vt_events.specs.Charge.{greatest_reply, text_of_reply};
+ghost use Rattle.vt_events.specs.Plain.{plain_reply};
 ghost use Rattle.vt_world.specs.Spare.{Fits, HasGrid, IsFit, IsTaken, empty_with, extent, extent_of, is_extent, needed_grid, no_spare};
 
 use std::alloc::Global;
 use std::marker::Model;
+use std::mem;
 use vt_base::{Bytes, NoMemory, Size};
-use vt_events::{Event, reply_bytes};
+use vt_events::{Event, Reply, reply_bytes};
 use vt_grid::Grid;
 use vt_screen::BLANK;
 
@@ -16,6 +18,8 @@ pub struct Spare {
     pub(crate) grid: Option<Grid>,
     pub(crate) reply: Bytes,
     pub(crate) unused: Bytes,
+    // It makes the empty buffer that takes the place of one that is used, and takes no memory.
+    alloc: Global,
 }
 
 impl Model for Spare {
@@ -35,7 +39,40 @@ impl Spare {
             grid: None,
             reply: Bytes::new(alloc),
             unused: Bytes::new(alloc),
+            alloc,
         }
+    }
+
+    /// Keeps the grid for a later call, if there is one.
+    pub fn keep_grid(self, kept: &mut Option<Grid>)
+        ensures { kept.new ≡ (if is_some self.grid then self.grid else kept.old) }
+    {
+        if self.grid.is_some() {
+            *kept = self.grid;
+        }
+    }
+
+    /// A copy of the answer. If the answer has bytes, they go into the second buffer, which leaves the
+    /// spare. This call takes no memory.
+    pub fn copy(&mut self, reply: &Reply) -> Reply
+        requires { length (text_of_reply reply.now) ≤ self.old.unused.room }
+        ensures { plain_reply result ≡ plain_reply reply.now }
+    {
+        let empty = Bytes::new(self.alloc);
+        let room = match reply {
+            Reply::Text(_) => mem::replace(&mut self.unused, empty),
+            _ => empty,
+        };
+        reply.copy_into(room)
+    }
+
+    // Takes the buffer for the answer.
+    pub(crate) fn take_reply(&mut self) -> Bytes
+        ensures reply { result ≡ self.old.reply }
+        ensures grid { self.new.grid ≡ self.old.grid }
+        ensures unused { self.new.unused ≡ self.old.unused }
+    {
+        mem::replace(&mut self.reply, Bytes::new(self.alloc))
     }
 }
 
@@ -74,6 +111,7 @@ pub fn spare_from(
         grid,
         reply,
         unused,
+        alloc,
     })
 }
 

@@ -21,31 +21,21 @@ impl World {
         ensures bytes { length (text_of_reply result.0) ≤ greatest_reply event.now }
         ensures unused { result.1 ≡ spare.unused }
     {
-        let (answer, unused, _grid) = self.step_with_rest(caller, event, spare);
-        (answer, unused)
+        let mut spare = spare;
+        let answer = self.step_with(caller, event, &mut spare);
+        (answer, spare.unused)
     }
 
-    /// The same step. It also returns the spare's grid, if the event didn't use it, or the old grid of
-    /// a screen that was resized.
-    pub fn step_with_rest(
-        &mut self,
-        caller: CallerNo,
-        event: &Event,
-        spare: Spare,
-    ) -> (Reply, Bytes, Option<Grid>)
-        requires fits { Fits self.old.rows self.old.cols event.now spare }
-        ensures step { HasOutcome (step self.old caller event.now) self.new result.0 }
-        ensures bytes { length (text_of_reply result.0) ≤ greatest_reply event.now }
-        ensures unused { result.1 ≡ spare.unused }
+    /// The same step with memory that is lent. The grid stays if the event doesn't use it; if a screen
+    /// is resized onto it, the screen's old grid takes its place. The second buffer stays.
+    pub fn step_with(&mut self, caller: CallerNo, event: &Event, spare: &mut Spare) -> Reply
+        requires fits { Fits self.old.rows self.old.cols event.now spare.old }
+        ensures step { HasOutcome (step self.old caller event.now) self.new result }
+        ensures bytes { length (text_of_reply result) ≤ greatest_reply event.now }
+        ensures unused { spare.new.unused ≡ spare.old.unused }
     {
-        let Spare {
-            grid,
-            reply,
-            unused,
-        } = spare;
-        let mut grid = grid;
-        let answer = self.step_on(caller, event, &mut grid, reply);
-        (answer, unused, grid)
+        let reply = spare.take_reply();
+        self.step_on(caller, event, &mut spare.grid, reply)
     }
 
     /// The same step with a grid that is lent. The grid stays if the event doesn't use it; if a

@@ -14,7 +14,7 @@ invariant_of-self g c =
     let v : SharedView = shared_view c.self.inside.state.value in
     let given : c.deref_mut-state.result.now ≡ c.self.inside.state.value = c.deref_mut-state.ensures.value in
     let w : SharedView = record {
-      world = c.step_with_rest-reply.new.self;
+      world = c.step_with-reply.new.self;
       log = c.push_counted.new.self;
       stop = c.deref_mut-state.result.now.stop;
     } in
@@ -22,15 +22,15 @@ invariant_of-self g c =
       caller = c.args.caller;
       seq = c.args.seq;
       event = c.replace.result;
-      reply = c.copy_into.result;
+      reply = c.copy.result;
     } in
-    let of : IsEntryOf c.args.caller c.args.seq c.args.event.now c.step_with_rest-reply.result.0 entry =
-    record { caller = refl; number = refl; event = c.replace.ensures.value; reply = c.copy_into.ensures } in
-    let stepped : HasOutcome (step v.world c.args.caller c.args.event.now) w.world c.step_with_rest-reply.result.0 =
-    subst (λ (x : WorldState). HasOutcome (step x c.args.caller c.args.event.now) w.world c.step_with_rest-reply.result.0)
-    (ap (λ (s : State). s.world) given) c.step_with_rest-reply.ensures.step in
+    let of : IsEntryOf c.args.caller c.args.seq c.args.event.now c.step_with-reply.result entry =
+    record { caller = refl; number = refl; event = c.replace.ensures.value; reply = c.copy.ensures } in
+    let stepped : HasOutcome (step v.world c.args.caller c.args.event.now) w.world c.step_with-reply.result =
+    subst (λ (x : WorldState). HasOutcome (step x c.args.caller c.args.event.now) w.world c.step_with-reply.result)
+    (ap (λ (s : State). s.world) given) c.step_with-reply.ensures.step in
     enters g.J.Opening.start g.J.Opening.limits v w c.args.caller c.args.seq c.args.event.now
-    c.step_with_rest-reply.result.0 entry of stepped c.self.invariant c.legal_grows.ensures.more
+    c.step_with-reply.result entry of stepped c.self.invariant c.legal_grows.ensures.more
     c.legal_grows.ensures.replay c.sizes_stay.ensures c.tickets_are_called.ensures
     (ap (λ (x : SharedView). is_waiting x.world c.args.caller) c.self.view_is ∙ c.requires.free)
     (c.requires.number
