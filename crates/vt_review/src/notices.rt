@@ -1,15 +1,17 @@
 //! The lines of an entry for switches, and for one console's bell and rows.
-ghost use Rattle.std.specs.Prelude.{◌≡◌, [], ◌∷◌, ◌++◌, OnOk, map, nat_lt, if◌then◌else◌};
+ghost use Rattle.std.specs.Prelude.{◌≡◌, ◌<◌, [], ◌∷◌, ◌++◌, OnOk, map, nat_lt, if◌then◌else◌};
 ghost use Rattle.std.specs.List.{flat_map};
 ghost use Rattle.vt_review.specs.Announcements.{bell_told, display_told, row_told};
-ghost use Rattle.vt_review.specs.Lines.{ear_lines};
+ghost use Rattle.vt_dump.specs.Rows.{row_text};
+ghost use Rattle.vt_grid.specs.Grid.{row_at};
+ghost use Rattle.vt_review.specs.Lines.{ear_lines, words_of};
 ghost use Rattle.vt_switch.specs.Moments.{hops};
 
-use crate::lines::add_lines;
-use crate::{Ear, Listener};
+use crate::lines::{ROW, add_lines, add_row_line};
+use crate::{Ear, Listener, Notice};
 use std::alloc::Global;
 use vt_base::{Bytes, ConsoleNo, NoMemory};
-use vt_journal::{add, add_next};
+use vt_grid::Grid;
 use vt_world::Mark;
 
 /// The kind of a notice that the display came to a console.
@@ -17,9 +19,6 @@ const DISPLAY: u8 = 0;
 
 /// The kind of a notice that a bell rang.
 const BELL: u8 = 1;
-
-/// The kind of a notice that a row is new.
-const ROW: u8 = 2;
 
 /// Adds the lines for each switch of a trace.
 pub(crate) fn tell_hops<F: Listener>(
@@ -61,23 +60,27 @@ pub(crate) fn tell_bell<F: Listener>(
     Ok(())
 }
 
-/// Adds the lines for a row of the console, from its text.
+/// Adds the lines for row `y` of the console's screen, with these words before the row's number.
 pub(crate) fn tell_row<F: Listener>(
     alloc: Global,
     text: &mut Bytes,
     ears: &[Ear<F>],
     e: u32,
     console: ConsoleNo,
+    words: &[u8],
+    screen: &Grid,
     y: u8,
-    row: &[u8],
 ) -> Result<(), NoMemory>
+    requires row { y < screen.now.rows }
+    requires words { words.now ≡ words_of e ROW console }
     ensures { OnOk result (text.new.bytes
-        ≡ text.old.bytes ++ ear_lines 0 e ears.now (row_told console y row.now)) }
+        ≡ text.old.bytes ++ ear_lines 0 e ears.now (row_told console y (row_text (row_at screen.now y)))) }
 {
-    let mut end = Bytes::new(alloc);
-    add_next(alloc, &mut end, u64::from(y))?;
-    add(alloc, &mut end, b" ")?;
-    add(alloc, &mut end, row)?;
-    add_lines(alloc, text, ears, e, ROW, console, end.as_slice())?;
+    let _ = e;
+    for a in 0..ears.len() {
+        if ears[a].ask(Notice { kind: ROW, console }) {
+            add_row_line(alloc, text, a, words, screen, y)?;
+        }
+    }
     Ok(())
 }

@@ -6,6 +6,7 @@ ghost use Rattle.vt_review.specs.Lines.{ear_lines};
 ghost use Rattle.vt_review.specs.Seen.{IsLeft, OthersAreLeft};
 ghost use Rattle.vt_world.specs.Terminals.{terminal_at};
 
+use crate::changes::changed_rows;
 use crate::notices::{tell_bell, tell_hops};
 use crate::screens::tell_rows;
 use crate::touching::touched;
@@ -91,7 +92,7 @@ fn tell_entry<F: Listener>(
 {
     terminals_stay();
     match touched(before, entry.caller, &entry.event) {
-        Some(console) => tell_touched(alloc, text, ears, e, before, after, console),
+        Some(console) => tell_touched(alloc, text, ears, e, before, after, console, entry),
         None => tell_untouched(alloc, text, ears, e, before, after),
     }
 }
@@ -105,8 +106,10 @@ fn tell_touched<F: Listener>(
     before: &World,
     after: &World,
     console: ConsoleNo,
+    entry: &Entry,
 ) -> Result<(), NoMemory>
-    requires { OthersAreLeft console before.now after.now }
+    requires left { after.now ≡ left_by before.now entry.now }
+    requires others { OthersAreLeft console before.now after.now }
     ensures { OnOk result (text.new.bytes
         ≡ text.old.bytes ++ entry_lines ears.now e before.now after.now) }
 {
@@ -118,7 +121,7 @@ fn tell_touched<F: Listener>(
     if front != console.get() {
         return Ok(());
     }
-    tell_screen(alloc, text, ears, e, before, after, console)?;
+    tell_screen(alloc, text, ears, e, before, after, console, entry)?;
     Ok(())
 }
 
@@ -131,7 +134,9 @@ fn tell_screen<F: Listener>(
     before: &World,
     after: &World,
     console: ConsoleNo,
+    entry: &Entry,
 ) -> Result<(), NoMemory>
+    requires { after.now ≡ left_by before.now entry.now }
     ensures { OnOk result (text.new.bytes
         ≡ text.old.bytes
         ++ flat_map (ear_lines 0 e ears.now) (rows_told before.now after.now console)) }
@@ -139,12 +144,26 @@ fn tell_screen<F: Listener>(
     let Some(screen) = after.screen(console) else {
         return Ok(());
     };
-    let old = match before.screen(console) {
-        Some(old) => Some(old.grid()),
-        None => None,
-    };
-    tell_rows(alloc, text, ears, e, console, old, screen.grid())?;
-    Ok(())
+    let grid = screen.grid();
+    grid.stays_full();
+    match before.screen(console) {
+        Some(old) => {
+            old.grid().stays_full();
+            let (first, last) = changed_rows(old, grid, &entry.event);
+            tell_rows(
+                alloc,
+                text,
+                ears,
+                e,
+                console,
+                Some(old.grid()),
+                grid,
+                first,
+                last,
+            )
+        }
+        None => tell_rows(alloc, text, ears, e, console, None, grid, 0, u8::MAX),
+    }
 }
 
 // Adds the lines of an entry that touches no console.

@@ -3,8 +3,8 @@ use Rattle.std.proofs.lemmas.Option.{same_Some}
 use Rattle.vt_review.proofs.Tellings.{left_alone}
 use Rattle.vt_review.proofs.reviewer.tell_entry.Goals as goal
 
-pub tell_touched-requires : goal.tell_touched-requires
-tell_touched-requires g c = λ n low high other.
+pub tell_touched-requires-clause-others : goal.tell_touched-requires-clause-others
+tell_touched-requires-clause-others g c = λ n low high other.
     left_alone c.terminals_stay.ensures c.args.before.now c.args.after.now c.args.entry.now n c.requires
     (c.touched.ensures n low high
     (λ same. other (same_Some n c.in-Some.console (sym same ∙ c.in-Some.is))))

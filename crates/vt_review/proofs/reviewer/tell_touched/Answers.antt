@@ -13,7 +13,7 @@ returns-then-front-get g c =
     let v : WorldState = c.args.after.now in
     told_aside c.args.ears.now c.args.e c.args.before.now v c.args.console c.args.text.now.bytes
     c.tell_hops.new.text.bytes c.tell_bell.new.text.bytes c.stays_in_range.ensures.low
-    c.stays_in_range.ensures.high c.requires
+    c.stays_in_range.ensures.high c.requires.others
     (omega (arith, c.get-front.ensures.same, c.get-front.ensures.low, c.display.ensures))
     (omega (arith, c.get-front.ensures.same, c.get-front.ensures.high, c.display.ensures))
     (λ (same : v.display.front ≡ c.args.console).
@@ -30,7 +30,7 @@ returns g c =
     let v : WorldState = c.args.after.now in
     told_at c.args.ears.now c.args.e w v c.args.console c.args.text.now.bytes
     c.tell_hops.new.text.bytes c.tell_bell.new.text.bytes c.tell_screen.new.text.bytes
-    c.stays_in_range.ensures.low c.stays_in_range.ensures.high c.requires
+    c.stays_in_range.ensures.low c.stays_in_range.ensures.high c.requires.others
     (c.in_ok-tell_hops.ensures
     ∙ ap (λ (marks : List Mark). c.args.text.now.bytes ++ flat_map f (map display_told (hops marks))) c.trace.ensures.marks)
     (c.in_ok-tell_bell.ensures
