@@ -1,5 +1,4 @@
 pub mod Growing
 pub mod Overs
-pub mod Rights
 pub mod Tested
 pub mod VerdictLaws

@@ -1,7 +1,7 @@
 -- There is one verdict, and it is legal exactly if the journal is right.
 use Rattle.std.proofs.Common.{◌≡◌, ◌↔◌, ℕ, ◌+◌, ◌<◌, ◌≤◌, ⊎_elim, true, zero, suc, List, [], ◌∷◌, ◌++◌, length, take, get_or, Option, Some, None, refl, sym, ap, subst, ◌∙◌, arith, true≢false}
 use Rattle.std.specs.Prelude.{is_some, slice_get}
-use Rattle.std.proofs.lemmas.Bool.{cases_lt, cases_order}
+use Rattle.std.proofs.lemmas.Bool.{cases_order}
 use Rattle.std.proofs.lemmas.List.{length-take, take-take, take_all, take_more}
 use Rattle.std.proofs.lemmas.List.Sums.{sum_by-take-drop}
 use Rattle.std.proofs.lemmas.Option.{get_or_from_slice_get, none-some, same_Some, slice_get-get_or, slice_get_within}
@@ -205,28 +205,3 @@ verdict_is_right o entries end v judges = (
   λ is. (legal_is_right o entries end).0 (subst (Judges o entries end) is judges),
   λ right. one_verdict o entries end v verdict.Legal judges ((legal_is_right o entries end).1 right),
 )
-
--- one entry more passes
-pub pass_more : (o : Setup) (entries : List Entry) (i : ℕ) (entry : Entry)
-    → slice_get entries i ≡ Some entry → AllPass o (take i entries) → Passes o (take i entries) entry
-    → AllPass o (take (i + 1) entries)
-pass_more o entries i entry is all passes = λ k other read.
-    let inside : k < length (take (i + 1) entries) =
-    slice_get_within (take (i + 1) entries) k other read in
-    let below : k < i + 1 = omega (arith, inside, length-take (i + 1) entries) in
-    let whole : slice_get entries k ≡ Some other =
-    sym (slice_get_take entries k (i + 1) below) ∙ read in
-    let front : take k (take (i + 1) entries) ≡ take k entries =
-    take-take k (i + 1) entries (weak k (i + 1) below) in
-    subst (λ front. Passes o front other) (sym front)
-    (⊎_elim
-    (λ before. earlier o entries k i other before all whole)
-    (λ past.
-    let here : k ≡ i = omega (arith, below, past) in
-    let same : entry ≡ other = same_Some entry other (sym is ∙ ap (slice_get entries) (sym here) ∙ whole) in
-    subst (λ e. Passes o (take k entries) e) same
-    (subst (λ n. Passes o (take n entries) entry) (sym here) passes))
-    (cases_lt k i))
-  where
-    weak : (k n : ℕ) → k < n → k ≤ n
-    weak k n below = omega (arith, below)

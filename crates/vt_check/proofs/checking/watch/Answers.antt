@@ -1,13 +1,13 @@
-use Rattle.std.proofs.Common.{◌≡◌, List, Some, length, take, refl, sym, subst, arith}
+use Rattle.std.proofs.Common.{◌≡◌, List, Some, length, take, refl, sym, subst, ◌∙◌}
 use Rattle.std.specs.Prelude.{slice_get}
 use Rattle.std.proofs.lemmas.List.{take_all}
 use Rattle.std.proofs.lemmas.Option.{slice_get_read}
 use Rattle.session_order.specs.Ends.{Setup}
-use Rattle.session_order.specs.Sessions.{AreOfCallers, setup_of, start_of}
+use Rattle.session_order.specs.Sessions.{setup_of, start_of}
 use Rattle.vt_check.proofs.Growing.{next_entry}
-use Rattle.vt_check.proofs.VerdictLaws.{next_take, pass_more}
+use Rattle.vt_check.proofs.VerdictLaws.{legal_is_right, next_take}
 use Rattle.vt_check.specs.Judging.{IsAfter}
-use Rattle.vt_check.specs.Verdicts.{AllPass, Judges}
+use Rattle.vt_check.specs.Verdicts.{Judges}
 use Rattle.vt_check.specs.Verdicts.Judges.{AtEnd, EntryFails, Right}
 use Rattle.vt_check.specs.declared.verdict.Verdict.TheVariants as verdict
 use Rattle.vt_events.specs.declared.entry.Entry.{Entry}
@@ -23,24 +23,22 @@ returns-in-Some-clause-judges g c =
     let fails = rw c.in-Some.is at c.in_ok-why.ensures.fails in
     subst (λ list. Judges o list c.args.j.now.tail (verdict.Illegal c.loop-i.i c.in-Some.why))
     c.as_slice-entries.ensures.same
-    (EntryFails c.loop-i.i c.in-Some.why c.index-entries-i.result c.loop-i.invariant.pass here
-    (fails o (take c.loop-i.i entries) (sym c.programs-programs.ensures.same)
-    (sym c.limits-limits.ensures.same) c.loop-i.invariant.after))
+    (EntryFails c.loop-i.i c.in-Some.why c.index-entries-i.result c.loop-i.invariant.after.passed here
+    (fails o (take c.loop-i.i entries) c.loop-i.invariant.after))
 
 pub see-requires : goal.see-requires
 see-requires g c =
     let o : Setup = setup_of c.args.s.now in
     let entries : List Entry = c.as_slice-entries.result.now in
-    let after = rw c.in_default.is at c.in_ok-why.ensures.after in
+    let passes = rw c.in_default.is at c.in_ok-why.ensures.passes in
     record {
       first = c.args.witness.now;
       start = start_of c.args.s.now;
       before = take c.loop-i.i entries;
       seen = c.loop-i.invariant.saw;
       next =
-          next_entry c.legal_grows.ensures.replay o entries c.loop-i.i c.index-entries-i.result
-          c.judge.new.self c.loop-i-test.true
-          (after o (take c.loop-i.i entries) (sym c.programs-programs.ensures.same) c.loop-i.invariant.after);
+          next_entry o entries c.loop-i.i c.index-entries-i.result c.judge.new.self c.loop-i-test.true
+          (passes o (take c.loop-i.i entries) c.loop-i.invariant.after);
     }
 
 pub loop-i-preserved : goal.loop-i-preserved
@@ -53,57 +51,47 @@ loop-i-preserved g c =
     c.index-entries-i.is in
     let more = sym (next_take entries c.loop-i.i c.index-entries-i.result here) in
     let passes = rw c.in_default.is at c.in_ok-why.ensures.passes in
-    let after = rw c.in_default.is at c.in_ok-why.ensures.after in
-    let events = rw c.in_default.is at c.in_ok-why.ensures.events in
-    let bytes = rw c.in_default.is at c.in_ok-why.ensures.bytes in
-    let at = after o front (sym c.programs-programs.ensures.same) c.loop-i.invariant.after in
+    let after = passes o front c.loop-i.invariant.after in
     record {
-      pass =
-          pass_more o entries c.loop-i.i c.index-entries-i.result here c.loop-i.invariant.pass
-          (passes o front (sym c.programs-programs.ensures.same) (sym c.limits-limits.ensures.same)
-          c.loop-i.invariant.after);
-      after = subst (λ h. IsAfter o h c.judge.new.self) more at;
-      events = omega (arith, events, c.limits-limits.ensures.events);
-      bytes = omega (arith, bytes, c.limits-limits.ensures.bytes);
+      after = subst (λ h. IsAfter o h c.judge.new.self) more after;
       saw =
           subst (λ h. g.W.Witness.saw c.args.witness.now (start_of c.args.s.now) h c.see.new.self) more
           (c.in_ok-see.ensures c.args.witness.now (start_of c.args.s.now) front c.loop-i.invariant.saw
-          (next_entry c.legal_grows.ensures.replay o entries c.loop-i.i c.index-entries-i.result
-          c.judge.new.self c.loop-i-test.true at));
+          (next_entry o entries c.loop-i.i c.index-entries-i.result c.judge.new.self c.loop-i-test.true after));
     }
 
 pub returns-in-Some-2-clause-judges : goal.returns-in-Some-2-clause-judges
 returns-in-Some-2-clause-judges g c =
     let o : Setup = setup_of c.args.s.now in
     let entries : List Entry = c.as_slice-entries.result.now in
-    let whole : take c.loop-i.i entries ≡ entries =
-    take_all c.loop-i.i entries c.loop-i-test.false in
+    let after : IsAfter o entries c.loop-i.judge =
+    subst (λ h. IsAfter o h c.loop-i.judge) (take_all c.loop-i.i entries c.loop-i-test.false)
+    c.loop-i.invariant.after in
     let fails = rw c.in-Some-2.is at c.in_ok-why-2.ensures.fails in
     subst (λ list. Judges o list c.args.j.now.tail (verdict.Illegal (length entries) c.in-Some-2.why))
     c.as_slice-entries.ensures.same
-    (AtEnd c.in-Some-2.why (subst (AllPass o) whole c.loop-i.invariant.pass)
-    (fails o entries (sym c.programs-programs.ensures.same) (sym c.limits-limits.ensures.same)
-    (subst (λ h. IsAfter o h c.loop-i.judge) whole c.loop-i.invariant.after)))
+    (AtEnd c.in-Some-2.why after.passed (fails o entries after))
 
 pub returns-clause-judges : goal.returns-clause-judges
 returns-clause-judges g c =
     let o : Setup = setup_of c.args.s.now in
     let entries : List Entry = c.as_slice-entries.result.now in
-    let whole : take c.loop-i.i entries ≡ entries =
-    take_all c.loop-i.i entries c.loop-i-test.false in
+    let after : IsAfter o entries c.loop-i.judge =
+    subst (λ h. IsAfter o h c.loop-i.judge) (take_all c.loop-i.i entries c.loop-i-test.false)
+    c.loop-i.invariant.after in
     let passes = rw c.in-None.is at c.in_ok-why-2.ensures.passes in
     subst (λ list. Judges o list c.args.j.now.tail verdict.Legal) c.as_slice-entries.ensures.same
-    (Right (subst (AllPass o) whole c.loop-i.invariant.pass)
-    (passes o entries (sym c.programs-programs.ensures.same) (sym c.limits-limits.ensures.same)
-    (subst (λ h. IsAfter o h c.loop-i.judge) whole c.loop-i.invariant.after)))
+    (Right after.passed (passes o entries after))
+
+pub returns-clause-right : goal.returns-clause-right
+returns-clause-right g c = λ legal.
+    let right =
+    (legal_is_right (setup_of c.args.s.now) c.args.j.now.entries c.args.j.now.tail).0
+    (returns-clause-judges g c) in
+    c.session_laws.ensures.right c.args.j.now.entries c.args.j.now.tail right.legal right.follows right.ends
 
 pub returns-clause-saw : goal.returns-clause-saw
 returns-clause-saw g c = λ legal.
     subst (λ h. g.W.Witness.saw c.args.witness.now (start_of c.args.s.now) h c.loop-i.witness)
-    c.as_slice-entries.ensures.same
-    (subst (λ h. g.W.Witness.saw c.args.witness.now (start_of c.args.s.now) h c.loop-i.witness)
-    (take_all c.loop-i.i c.as_slice-entries.result.now c.loop-i-test.false) c.loop-i.invariant.saw)
-
-pub judge_end-requires-clause-programs : goal.judge_end-requires-clause-programs
-judge_end-requires-clause-programs g c =
-    subst AreOfCallers (sym c.programs-programs.ensures.same) c.session_laws.ensures.programs
+    (take_all c.loop-i.i c.as_slice-entries.result.now c.loop-i-test.false ∙ c.as_slice-entries.ensures.same)
+    c.loop-i.invariant.saw

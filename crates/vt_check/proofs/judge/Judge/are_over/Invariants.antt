@@ -7,5 +7,5 @@ use Rattle.vt_check.proofs.judge.Judge.are_over.Given as goal
 
 abbrev pub invariant-loop-i : goal.invariant-loop-i
 invariant-loop-i l =
-    (o : Setup) (h : List Entry) → o.programs ≡ l.programs → IsAfter o h l.self
+    (o : Setup) (h : List Entry) → IsAfter o h l.self
     → (p : ℕ) → p < l.i → next_by o.programs p h ≡ None

@@ -1,64 +1,62 @@
-use Rattle.std.proofs.Common.{◌≡◌, ◌∷◌, [], ◌++◌, Some, is_some, ap, ◌∙◌}
-use Rattle.session_text.specs.Programs.{program_of}
-use Rattle.vt_check.proofs.Tested.{fails}
-use Rattle.vt_check.specs.Judging.{IsAfter}
+use Rattle.std.proofs.Common.{◌≤◌, length, is_some, refl, ap, ◌∙◌, arith}
+use Rattle.std.proofs.lemmas.Bool.{iff_false}
+use Rattle.std.proofs.lemmas.List.{length_push}
+use Rattle.vt_check.proofs.Growing.{taken, within_more}
+use Rattle.vt_check.proofs.Tested.{answered_is, program_is}
+use Rattle.vt_check.specs.Verdicts.{Passes}
 use Rattle.vt_check.specs.Verdicts.FailsAt.{NoAnswer, NoCall, NoCaller, NoRoom}
+use Rattle.vt_world.specs.Step.{Outcome}
 use Rattle.vt_check.proofs.judge.Judge.judge.Goals as goal
 
 pub returns-in_default-clause-fails : goal.returns-in_default-clause-fails
-returns-in_default-clause-fails c = λ o h same limits at.
-    NoCaller
-    (fails (is_some c.counted.result) (c.counted.ensures.counted o h same at) (ap is_some c.in_default.is))
+returns-in_default-clause-fails c = λ o h at.
+    NoCaller (iff_false (c.counted.ensures.counted o h at) (ap is_some c.in_default.is))
 
 pub returns-then-not-branch-clause-fails : goal.returns-then-not-branch-clause-fails
-returns-then-not-branch-clause-fails c = λ o h same limits at.
-    let program : program_of o.programs c.args.entry.now.caller ≡ Some c.in-Some.program.now =
-    ap (λ list. program_of list c.args.entry.now.caller) same ∙ c.in-Some.ensures.program in
-    NoCall ((c.counted.ensures.counted o h same at).0 (ap is_some c.in-Some.is))
-    (fails c.in_ok-is_next.field-0 (c.in_ok-is_next.ensures o h program at) c.if-not-branch.true)
+returns-then-not-branch-clause-fails c = λ o h at.
+    NoCall ((c.counted.ensures.counted o h at).0 (ap is_some c.in-Some.is))
+    (iff_false (c.in_ok-is_next.ensures o h at) c.if-not-branch.true)
 
-pub returns-then-not-branch-2-clause-fails : goal.returns-then-not-branch-2-clause-fails
-returns-then-not-branch-2-clause-fails c = λ o h same limits at.
-    let program : program_of o.programs c.args.entry.now.caller ≡ Some c.in-Some.program.now =
-    ap (λ list. program_of list c.args.entry.now.caller) same ∙ c.in-Some.ensures.program in
-    NoAnswer ((c.counted.ensures.counted o h same at).0 (ap is_some c.in-Some.is))
-    ((c.in_ok-is_next.ensures o h program at).0 c.if-not-branch.false)
-    (fails c.in_ok-is_answered.field-0 (c.in_ok-is_answered.ensures.answered o h at) c.if-not-branch-2.true)
+pub returns-then-not-same_reply-clause-fails : goal.returns-then-not-same_reply-clause-fails
+returns-then-not-same_reply-clause-fails c = λ o h at.
+    NoAnswer ((c.counted.ensures.counted o h at).0 (ap is_some c.in-Some.is))
+    ((c.in_ok-is_next.ensures o h at).0 c.if-not-branch.false)
+    (iff_false
+    (answered_is o h c.args.self.now c.args.entry.now c.call.new.self c.in_ok-reply.reply c.same_reply.result at
+    c.in_ok-reply.ensures.ok c.same_reply.ensures)
+    c.if-not-same_reply.true)
 
-pub returns-then-not-is_within-clause-fails : goal.returns-then-not-is_within-clause-fails
-returns-then-not-is_within-clause-fails c = λ o h same limits at.
-    let program : program_of o.programs c.args.entry.now.caller ≡ Some c.in-Some.program.now =
-    ap (λ list. program_of list c.args.entry.now.caller) same ∙ c.in-Some.ensures.program in
-    let counted = (c.counted.ensures.counted o h same at).0 (ap is_some c.in-Some.is) in
-    let next = (c.in_ok-is_next.ensures o h program at).0 c.if-not-branch.false in
-    let answered = (c.in_ok-is_answered.ensures.answered o h at).0 c.if-not-branch-2.false in
-    let after : IsAfter o (h ++ c.args.entry.now ∷ []) c.is_answered.new.self =
-    c.in_ok-is_answered.ensures.after o h c.if-not-branch-2.false program at next in
-    NoRoom counted next answered
-    (fails c.is_within.result
-    (c.is_within.ensures.within o (h ++ c.args.entry.now ∷ []) limits after) c.if-not-is_within.true)
+pub returns-then-not-room-clause-fails : goal.returns-then-not-room-clause-fails
+returns-then-not-room-clause-fails c = λ o h at.
+    NoRoom ((c.counted.ensures.counted o h at).0 (ap is_some c.in-Some.is))
+    ((c.in_ok-is_next.ensures o h at).0 c.if-not-branch.false)
+    ((answered_is o h c.args.self.now c.args.entry.now c.call.new.self c.in_ok-reply.reply c.same_reply.result at
+    c.in_ok-reply.ensures.ok c.same_reply.ensures).0
+    c.if-not-same_reply.false)
+    (iff_false
+    (within_more o.limits h c.args.entry.now c.charge-charge.result c.has_room-room.result c.charge-charge.ensures
+    (c.has_room-room.ensures.room o h at))
+    c.if-not-room.true)
 
 pub returns-clause-passes : goal.returns-clause-passes
-returns-clause-passes c = λ o h same limits at.
-    let program : program_of o.programs c.args.entry.now.caller ≡ Some c.in-Some.program.now =
-    ap (λ list. program_of list c.args.entry.now.caller) same ∙ c.in-Some.ensures.program in
-    let counted = (c.counted.ensures.counted o h same at).0 (ap is_some c.in-Some.is) in
-    let next = (c.in_ok-is_next.ensures o h program at).0 c.if-not-branch.false in
-    let answered = (c.in_ok-is_answered.ensures.answered o h at).0 c.if-not-branch-2.false in
-    let after : IsAfter o (h ++ c.args.entry.now ∷ []) c.is_answered.new.self =
-    c.in_ok-is_answered.ensures.after o h c.if-not-branch-2.false program at next in
-    record {
-      counted = counted;
-      next = next;
-      answered = answered;
+returns-clause-passes c = λ o h at.
+    let passes : Passes o h c.args.entry.now = record {
+      counted = (c.counted.ensures.counted o h at).0 (ap is_some c.in-Some.is);
+      next = (c.in_ok-is_next.ensures o h at).0 c.if-not-branch.false;
+      answered =
+          (answered_is o h c.args.self.now c.args.entry.now c.call.new.self c.in_ok-reply.reply
+          c.same_reply.result at c.in_ok-reply.ensures.ok c.same_reply.ensures).0
+          c.if-not-same_reply.false;
       within =
-          (c.is_within.ensures.within o (h ++ c.args.entry.now ∷ []) limits after).0
-          c.if-not-is_within.false;
-    }
-
-pub returns-clause-after : goal.returns-clause-after
-returns-clause-after c = λ o h same at.
-    let program : program_of o.programs c.args.entry.now.caller ≡ Some c.in-Some.program.now =
-    ap (λ list. program_of list c.args.entry.now.caller) same ∙ c.in-Some.ensures.program in
-    let next = (c.in_ok-is_next.ensures o h program at).0 c.if-not-branch.false in
-    c.in_ok-is_answered.ensures.after o h c.if-not-branch-2.false program at next
+          (within_more o.limits h c.args.entry.now c.charge-charge.result c.has_room-room.result
+          c.charge-charge.ensures (c.has_room-room.ensures.room o h at)).0
+          c.if-not-room.false;
+    } in
+    let few : length h ≤ 1_000_000 =
+    omega (arith, passes.within.events, at.few, length_push h c.args.entry.now) in
+    taken o h c.args.entry.now c.args.self.now c.call.new.self c.took.new.self _ at passes
+    (ap (λ (x : Outcome). x.world) c.in_ok-reply.ensures.ok)
+    (c.took.ensures o.programs h c.args.entry.now
+    (program_is o h c.args.self.now c.args.entry.now.caller _ at c.in-Some.ensures.program)
+    at.standing few refl passes.next.next refl)
+    (c.from.ensures ∙ c.charge-charge.ensures)

@@ -1,15 +1,14 @@
-use Rattle.std.proofs.Common.{◌<◌, below_more, arith, subst}
-use Rattle.vt_check.proofs.Tested.{fails}
-use Rattle.vt_check.specs.Judging.{HasCall}
+use Rattle.std.proofs.Common.{◌<◌, arith}
+use Rattle.std.proofs.lemmas.Bool.{false≢true}
+use Rattle.vt_base.specs.Limits.{callers}
+use Rattle.vt_check.proofs.VerdictLaws.{caller_known}
 use Rattle.vt_check.proofs.judge.Judge.someone_calls.Goals as goal
 
-pub loop-i-preserved : goal.loop-i-preserved
-loop-i-preserved c = λ o h same at.
-    below_more (λ caller. ¬ HasCall o h caller c.args.charge) c.loop-i.i (c.loop-i.invariant o h same at)
-    (subst (λ p. ¬ HasCall o h p c.args.charge) c.numbered.ensures
-    (fails c.in_ok-calls.field-0 (c.in_ok-calls.ensures o h same at) c.if-branch.false))
-
-pub returns-clause-none : goal.returns-clause-none
-returns-clause-none c = λ o h same at caller within.
-    let below : caller < c.loop-i.i = omega (arith, within, c.loop-i-test.false) in
-    c.loop-i.invariant o h same at caller below
+pub returns : goal.returns
+returns c = λ o h at. (
+  λ no_way. absurd (false≢true no_way),
+  λ has.
+      let known : has.0 < callers =
+      at.callers has.0 (caller_known o.programs has.0 h has.1.call has.1.next) in
+      absurd (c.loop-i.invariant o h at has.0 (omega (arith, known, c.loop-i-test.false)) has.1),
+)
