@@ -1,10 +1,10 @@
--- A text that is run piece by piece, and the places of what it says.
+-- A text that is run piece by piece, and the places of its side effects.
 use Rattle.screen_c.specs.Shown.{c_out}
 use Rattle.screen_c.specs.declared.vt_out.VtOut.{VtOut}
-use Rattle.std.proofs.Common.{◌≡◌, ℕ, ◌+◌, ◌-◌, ◌<◌, ◌≤◌, List, [], ◌∷◌, ◌++◌, add-one, get_or, set, length, map, take, drop, sym, ap, ◌∙◌, arith, length-drop, append_assoc}
+use Rattle.std.proofs.Common.{◌≡◌, ℕ, ◌+◌, ◌-◌, ◌<◌, List, ◌∷◌, ◌++◌, Option, Some, add-one, set, length, map, take, drop, sym, ap, ◌∙◌, arith, length-drop, append_assoc}
 use Rattle.std.proofs.Math.Seq.{take-add, take-append_seam, drop-append-add, set_split}
 use Rattle.std.proofs.lemmas.List.{drop-drop, length-append, length-map, map-append, take_all}
-use Rattle.vt_screen.specs.Run.{AnyCut, after, outs_of_run}
+use Rattle.vt_screen.specs.Run.{AnyCut, after, outs_of_option, outs_of_run}
 use Rattle.vt_screen.specs.Screen.{Screen}
 use Rattle.vt_screen.specs.declared.out.Out.{Out}
 use Rattle.vt_units.specs.Run.{Reached}
@@ -60,12 +60,13 @@ pub count_more : (said more all : List Out) (n k : ℕ) → n ≡ length said �
 count_more said more all n k count added whole =
     omega (arith, count, added, length-append said more, ap length whole)
 
--- one thing at place n
-pub one_said : (said : List Out) (d : Out) (places : List VtOut) (n : ℕ) → 0 < length said → length said ≤ 1
+-- a side effect at place n
+pub one_put : (o : Option Out) (out : Out) (x : VtOut) (places : List VtOut) (n : ℕ) → o ≡ Some out → x ≡ c_out out
     → n < length places
-    → set places n (c_out (get_or said 0 d)) ≡ take n places ++ (map c_out said ++ drop (n + length said) places)
-one_said [] d places n some one room = absurd (omega (arith, some))
-one_said (x ∷ []) d places n some one room =
-    set_split places n (c_out x) room
-    ∙ ap (λ k. take n places ++ (c_out x ∷ drop k places)) (sym (add-one n))
-one_said (x ∷ y ∷ said) d places n some one room = absurd (omega (arith, one))
+    → set places n x
+    ≡ take n places ++ (map c_out (outs_of_option o) ++ drop (n + length (outs_of_option o)) places)
+one_put o out x places n is made room =
+    set_split places n x room
+    ∙ ap (λ k. take n places ++ (x ∷ drop k places)) (sym (add-one n))
+    ∙ ap (λ y. take n places ++ (y ∷ drop (n + 1) places)) made
+    ∙ ap (λ e. take n places ++ (map c_out (outs_of_option e) ++ drop (n + length (outs_of_option e)) places)) (sym is)
