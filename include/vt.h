@@ -40,7 +40,7 @@ struct vt_screen {
     void *at;
 };
 
-/* What a text asks for besides drawing. */
+/* The kinds of side effects of a text. */
 enum vt_out_kind {
     VT_REPORT = 1,        /* bytes for the program's input: `text`, of `length` bytes */
     VT_SWITCH_TO = 2,     /* the console `number` has to come to the front */
@@ -49,6 +49,7 @@ enum vt_out_kind {
     VT_BELL = 5
 };
 
+/* A side effect. */
 struct vt_out {
     uint8_t kind, number, length;
     uint8_t text[16];
@@ -190,7 +191,7 @@ struct vt_modes {
     uint8_t cursor_keys, keypad, repeat, newline;
 };
 
-/* What a scan byte does. */
+/* The kinds of results of a scan byte. */
 enum vt_key_kind {
     VT_KEY_NOTHING,
     VT_KEY_BYTES,         /* `bytes`, of `length` bytes, for the program's input */

@@ -1,9 +1,30 @@
--- The sizes that a call accepts.
-use Rattle.std.specs.Prelude.{ℕ, ◌≤◌}
+-- The codes that calls return to C, as include/vt.h names them. 6, VT_FAULT, is a code of keys_c alone.
+use Rattle.std.specs.Prelude.{ℕ}
 
--- a screen has 1 to 255 rows and columns
-pub record IsSize (rows cols : ℕ) : Type 0 where
-  pub some_rows : 1 ≤ rows
-  pub few_rows : rows ≤ 255
-  pub some_cols : 1 ≤ cols
-  pub few_cols : cols ≤ 255
+-- VT_OK: the call succeeded
+abbrev pub OK : ℕ
+OK = 0
+
+-- VT_MADE: the handle has something already
+abbrev pub MADE : ℕ
+MADE = 1
+
+-- VT_RANGE: a number is out of its range
+abbrev pub RANGE : ℕ
+RANGE = 2
+
+-- VT_NO_MEMORY: memory ran out
+abbrev pub NO_MEMORY : ℕ
+NO_MEMORY = 3
+
+-- VT_NOTHING: the handle has nothing
+abbrev pub NOTHING : ℕ
+NOTHING = 4
+
+-- VT_NO_ROOM: the room is too small
+abbrev pub NO_ROOM : ℕ
+NO_ROOM = 5
+
+-- VT_NOT_DRAWABLE: no text draws this screen
+abbrev pub NOT_DRAWABLE : ℕ
+NOT_DRAWABLE = 7

@@ -4,4 +4,5 @@ pub mod Held
 pub mod Marks
 pub mod Places
 pub mod Shown
+pub mod Sizes
 pub mod Text

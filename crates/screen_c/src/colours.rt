@@ -1,13 +1,13 @@
 //! The colours and the user's table of a screen.
 ghost use Rattle.std.specs.Prelude.{◌≡◌, ◌<◌, ◌≤◌, ◌⊎◌, map, slice_get, slice_set, IfNone, IfSome, None, Some};
+ghost use Rattle.screen_c.specs.Codes.{NOTHING, OK, RANGE};
 ghost use Rattle.screen_c.specs.Held.{with_machine};
 ghost use Rattle.screen_c.specs.Places.{with_items};
 ghost use Rattle.screen_c.specs.Shown.{c_colour};
 ghost use Rattle.vt_cells.specs.Colours.{Rgb};
 ghost use Rattle.vt_screen.specs.Tape.{palette, user_map, with_change};
 
-use crate::codes::{NOTHING, OK, RANGE};
-use crate::{ScreenHandle, VtColour};
+use crate::{ScreenHandle, VtColour, code};
 use std::alloc::Global;
 
 /// The colour of a number.
@@ -26,14 +26,14 @@ pub extern "C" fn vt_screen_colour(
         ⊎ ((result ≡ RANGE) × (16 ≤ number) × (colour.new ≡ colour.old))) }
 {
     match handle.take(alloc) {
-        None => NOTHING,
+        None => code::NOTHING,
         Some(owned) => {
             let within = number < 16;
             if within {
                 *colour = VtColour::of(owned.emu.state().palette.get(number as u8));
             }
             handle.put(owned);
-            if within { OK } else { RANGE }
+            if within { code::OK } else { code::RANGE }
         }
     }
 }
@@ -51,11 +51,11 @@ pub extern "C" fn vt_screen_palette(
         × (colours.new ≡ with_items (map c_colour o.machine.state.state.palette) colours.old)) }
 {
     match handle.take(alloc) {
-        None => NOTHING,
+        None => code::NOTHING,
         Some(owned) => {
             put_colours(owned.emu.state().palette.as_slice(), colours);
             handle.put(owned);
-            OK
+            code::OK
         }
     }
 }
@@ -90,7 +90,7 @@ pub extern "C" fn vt_screen_set_colour(
         ⊎ ((result ≡ RANGE) × (16 ≤ number) × (handle.new.value ≡ Some o))) }
 {
     match handle.take(alloc) {
-        None => NOTHING,
+        None => code::NOTHING,
         Some(owned) => {
             let mut owned = owned;
             let within = number < 16;
@@ -101,7 +101,7 @@ pub extern "C" fn vt_screen_set_colour(
                     .set(number as u8, (red, green, blue));
             }
             handle.put(owned);
-            if within { OK } else { RANGE }
+            if within { code::OK } else { code::RANGE }
         }
     }
 }
@@ -118,12 +118,12 @@ pub extern "C" fn vt_screen_set_user(
         × (handle.new.value ≡ Some (with_machine (with_change (user_map words.now) o.machine) o))) }
 {
     match handle.take(alloc) {
-        None => NOTHING,
+        None => code::NOTHING,
         Some(owned) => {
             let mut owned = owned;
             owned.emu.set_user(words);
             handle.put(owned);
-            OK
+            code::OK
         }
     }
 }

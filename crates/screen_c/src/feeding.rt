@@ -1,5 +1,6 @@
 //! Runs text on a screen.
 ghost use Rattle.std.specs.Prelude.{◌≡◌, ◌<◌, ◌≤◌, ◌+◌, ◌++◌, drop, length, map, take, IfNone, IfSome, None, Some};
+ghost use Rattle.screen_c.specs.Codes.{NOTHING, OK};
 ghost use Rattle.screen_c.specs.Fed.{IsFed};
 ghost use Rattle.screen_c.specs.Held.{with_machine};
 ghost use Rattle.screen_c.specs.Shown.{c_out};
@@ -7,8 +8,7 @@ ghost use Rattle.vt_screen.specs.Run.{after, outs_of_option};
 ghost use Rattle.vt_screen.specs.Screen.{Screen};
 ghost use Rattle.vt_units.specs.Run.{Reached};
 
-use crate::codes::{NOTHING, OK};
-use crate::{ScreenHandle, VtFed, VtOut};
+use crate::{ScreenHandle, VtFed, VtOut, code};
 use std::alloc::Global;
 use vt_screen::{Emu, SideEffect, any_cut};
 
@@ -28,12 +28,12 @@ pub extern "C" fn vt_screen_feed(
         × IsFed o.machine bytes.now outs.old outs.new fed.new end)) }
 {
     match handle.take(alloc) {
-        None => NOTHING,
+        None => code::NOTHING,
         Some(owned) => {
             let mut owned = owned;
             *fed = feed(&mut owned.emu, bytes, outs);
             handle.put(owned);
-            OK
+            code::OK
         }
     }
 }
@@ -46,12 +46,12 @@ pub extern "C" fn vt_screen_write(handle: &mut ScreenHandle, bytes: &[u8], alloc
         × (handle.new.value ≡ Some (with_machine (after o.machine bytes.now) o))) }
 {
     match handle.take(alloc) {
-        None => NOTHING,
+        None => code::NOTHING,
         Some(owned) => {
             let mut owned = owned;
             owned.emu.write(bytes);
             handle.put(owned);
-            OK
+            code::OK
         }
     }
 }

@@ -1,8 +1,9 @@
 //! Writes a text into room that C passes.
 ghost use Rattle.std.specs.Prelude.{◌≡◌, take};
+ghost use Rattle.screen_c.specs.Codes.{OK};
 ghost use Rattle.screen_c.specs.Text.{HandsOver};
 
-use crate::codes::{NO_ROOM, OK};
+use crate::code;
 
 /// Writes the text's length, and the text, if there is room for it.
 pub(crate) fn hand_over(text: &[u8], room: &mut [u8], count: &mut usize) -> u8
@@ -11,8 +12,8 @@ pub(crate) fn hand_over(text: &[u8], room: &mut [u8], count: &mut usize) -> u8
 {
     *count = text.len();
     if room.len() < text.len() {
-        return NO_ROOM;
+        return code::NO_ROOM;
     }
     room[..text.len()].copy_from_slice(text);
-    OK
+    code::OK
 }

@@ -1,7 +1,7 @@
 //! The screen machine for programs in C: `vt_screen` of `include/vt.h`.
 #![tactic(auto)]
 
-mod codes;
+mod code;
 mod colours;
 mod feeding;
 mod handing_over;

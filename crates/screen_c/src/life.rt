@@ -1,11 +1,11 @@
 //! Makes, frees and resizes a screen.
 ghost use Rattle.std.specs.Prelude.{◌≡◌, ◌⊎◌, IfNone, IfOk, IfSome, None, Some};
-ghost use Rattle.screen_c.specs.Codes.{IsSize};
+ghost use Rattle.screen_c.specs.Codes.{MADE, NOTHING, NO_MEMORY, OK, RANGE};
 ghost use Rattle.screen_c.specs.Held.{new_screen, with_machine};
+ghost use Rattle.screen_c.specs.Sizes.{IsSize};
 ghost use Rattle.vt_screen.specs.Tape.{resize, with_change};
 
-use crate::codes::{MADE, NO_MEMORY, NOTHING, OK, RANGE};
-use crate::{OwnedScreen, ScreenHandle};
+use crate::{OwnedScreen, ScreenHandle, code};
 use std::alloc::Global;
 use vt_base::{NoMemory, Size};
 use vt_grid::Grid;
@@ -28,15 +28,15 @@ pub extern "C" fn vt_screen_new(
     match handle.take(alloc) {
         Some(owned) => {
             handle.put(owned);
-            MADE
+            code::MADE
         }
         None => match size_of(rows, cols) {
-            None => RANGE,
+            None => code::RANGE,
             Some(size) => match OwnedScreen::boxed(alloc, size) {
-                Err(_) => NO_MEMORY,
+                Err(_) => code::NO_MEMORY,
                 Ok(owned) => {
                     handle.put(owned);
-                    OK
+                    code::OK
                 }
             },
         },
@@ -68,12 +68,12 @@ pub extern "C" fn vt_screen_resize(
         ⊎ ((result ≡ NO_MEMORY) × (handle.new.value ≡ Some o))) }
 {
     match handle.take(alloc) {
-        None => NOTHING,
+        None => code::NOTHING,
         Some(owned) => {
             let mut owned = owned;
-            let code = owned.resize(alloc, rows, cols);
+            let answer = owned.resize(alloc, rows, cols);
             handle.put(owned);
-            code
+            answer
         }
     }
 }
@@ -101,12 +101,12 @@ impl OwnedScreen {
             ⊎ ((result ≡ NO_MEMORY) × (self.new ≡ self.old)) }
     {
         match size_of(rows, cols) {
-            None => RANGE,
+            None => code::RANGE,
             Some(size) => match Grid::blank(alloc, size, BLANK) {
-                Err(_) => NO_MEMORY,
+                Err(_) => code::NO_MEMORY,
                 Ok(fresh) => {
                     let _ = self.emu.resize(fresh);
-                    OK
+                    code::OK
                 }
             },
         }

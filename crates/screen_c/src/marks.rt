@@ -1,13 +1,13 @@
 //! The rows that changed since the cells were marked.
 ghost use Rattle.std.specs.Prelude.{◌≡◌, ◌⊎◌, ◌<◌, IfNone, IfSome, IsTrue, None, Some};
+ghost use Rattle.screen_c.specs.Codes.{NOTHING, NO_MEMORY, OK};
 ghost use Rattle.screen_c.specs.Held.{with_mark};
 ghost use Rattle.screen_c.specs.Marks.{changed_flags, is_as_marked, is_changed, is_same_size};
 ghost use Rattle.vt_redraw.specs.Redraw.{IsSameSize};
 ghost use Rattle.screen_c.specs.Places.{with_items};
 ghost use Rattle.screen_c.specs.Shown.{c_flag};
 
-use crate::codes::{NO_MEMORY, NOTHING, OK};
-use crate::{OwnedScreen, ScreenHandle};
+use crate::{OwnedScreen, ScreenHandle, code};
 use std::alloc::Global;
 use vt_grid::Grid;
 use vt_screen::BLANK;
@@ -21,12 +21,12 @@ pub extern "C" fn vt_screen_mark(handle: &mut ScreenHandle, alloc: Global) -> u8
         ⊎ ((result ≡ NO_MEMORY) × (handle.new.value ≡ Some o))) }
 {
     match handle.take(alloc) {
-        None => NOTHING,
+        None => code::NOTHING,
         Some(owned) => {
             let mut owned = owned;
-            let code = owned.set_mark(alloc);
+            let answer = owned.set_mark(alloc);
             handle.put(owned);
-            code
+            answer
         }
     }
 }
@@ -40,11 +40,11 @@ pub extern "C" fn vt_screen_changed(handle: &mut ScreenHandle, rows: &mut [u8], 
         × (rows.new ≡ with_items (changed_flags o.mark o.machine.state.grid) rows.old)) }
 {
     match handle.take(alloc) {
-        None => NOTHING,
+        None => code::NOTHING,
         Some(owned) => {
             put_flags(&owned.mark, owned.emu.grid(), rows);
             handle.put(owned);
-            OK
+            code::OK
         }
     }
 }
@@ -56,16 +56,16 @@ impl OwnedScreen {
         if let Some(mark) = &mut self.mark {
             if has_same_size(mark, self.emu.grid()) {
                 mark.copy_from(self.emu.grid());
-                return OK;
+                return code::OK;
             }
         }
         match Grid::blank(alloc, self.emu.grid().size(), BLANK) {
-            Err(_) => NO_MEMORY,
+            Err(_) => code::NO_MEMORY,
             Ok(fresh) => {
                 let mut fresh = fresh;
                 fresh.copy_from(self.emu.grid());
                 self.mark = Some(fresh);
-                OK
+                code::OK
             }
         }
     }

@@ -1,6 +1,7 @@
 //! Reads the cells and the state of a screen.
 ghost use Rattle.std.specs.Prelude.{◌≡◌, ◌<◌, ◌≤◌, ◌⊎◌, map, IfNone, IfSome, None, Some};
 ghost use Rattle.std.specs.List.{flat_map};
+ghost use Rattle.screen_c.specs.Codes.{NOTHING, OK, RANGE};
 ghost use Rattle.screen_c.specs.Places.{with_items};
 ghost use Rattle.screen_c.specs.Shown.{c_cell, c_state};
 ghost use Rattle.screen_c.specs.Text.{HandsOver};
@@ -8,9 +9,8 @@ ghost use Rattle.vt_cells.specs.declared.cell.Cell.{Cell};
 ghost use Rattle.vt_dump.specs.Rows.{cell_text};
 ghost use Rattle.vt_grid.specs.Grid.{HasCellAt, row_at};
 
-use crate::codes::{NO_MEMORY, NOTHING, OK, RANGE};
 use crate::handing_over::hand_over;
-use crate::{OwnedScreen, ScreenHandle, VtCell, VtState};
+use crate::{OwnedScreen, ScreenHandle, VtCell, VtState, code};
 use std::alloc::Global;
 use vt_dump::text_row;
 use vt_grid::Grid;
@@ -27,11 +27,11 @@ pub extern "C" fn vt_screen_state(
     ensures state { IfSome handle.old.value (λ o. (result ≡ OK) × (state.new ≡ c_state o.machine.state)) }
 {
     match handle.take(alloc) {
-        None => NOTHING,
+        None => code::NOTHING,
         Some(owned) => {
             *state = VtState::of(&owned.emu);
             handle.put(owned);
-            OK
+            code::OK
         }
     }
 }
@@ -53,7 +53,7 @@ pub extern "C" fn vt_screen_cell(
         ⊎ ((result ≡ RANGE) × ((grid.rows ≤ row) ⊎ (grid.cols ≤ col)) × (cell.new ≡ cell.old))) }
 {
     match handle.take(alloc) {
-        None => NOTHING,
+        None => code::NOTHING,
         Some(owned) => {
             let size = owned.emu.grid().size();
             let within = row < u32::from(size.rows) && col < u32::from(size.cols);
@@ -61,7 +61,7 @@ pub extern "C" fn vt_screen_cell(
                 *cell = VtCell::of(owned.emu.grid().at(row as u8, col as u8));
             }
             handle.put(owned);
-            if within { OK } else { RANGE }
+            if within { code::OK } else { code::RANGE }
         }
     }
 }
@@ -82,14 +82,14 @@ pub extern "C" fn vt_screen_row(
         ⊎ ((result ≡ RANGE) × (grid.rows ≤ row) × (cells.new ≡ cells.old))) }
 {
     match handle.take(alloc) {
-        None => NOTHING,
+        None => code::NOTHING,
         Some(owned) => {
             let within = row < u32::from(owned.emu.grid().size().rows);
             if within {
                 put_cells(owned.emu.grid(), row as u8, cells);
             }
             handle.put(owned);
-            if within { OK } else { RANGE }
+            if within { code::OK } else { code::RANGE }
         }
     }
 }
@@ -112,11 +112,11 @@ pub extern "C" fn vt_screen_row_text(
         text.old text.new count.old count.new result) }
 {
     match handle.take(alloc) {
-        None => NOTHING,
+        None => code::NOTHING,
         Some(owned) => {
-            let code = owned.row_text(alloc, row, text, count);
+            let answer = owned.row_text(alloc, row, text, count);
             handle.put(owned);
-            code
+            answer
         }
     }
 }
@@ -131,10 +131,10 @@ impl OwnedScreen {
     {
         let grid = self.emu.grid();
         if u32::from(grid.size().rows) <= row {
-            return RANGE;
+            return code::RANGE;
         }
         match text_row(alloc, grid, row as u8) {
-            Err(_) => NO_MEMORY,
+            Err(_) => code::NO_MEMORY,
             Ok(framed) => {
                 let bytes = framed.as_slice();
                 hand_over(&bytes[1..bytes.len() - 2], text, count)

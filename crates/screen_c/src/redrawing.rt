@@ -1,15 +1,15 @@
 //! A screen as a text that draws it again.
 ghost use Rattle.std.specs.Prelude.{◌≡◌, false, take, IfNone, IfOk, IfSome, IsTrue, None, Some};
+ghost use Rattle.screen_c.specs.Codes.{NOTHING, NOT_DRAWABLE, OK};
 ghost use Rattle.screen_c.specs.Marks.{IsAtMark, text_from_mark};
 ghost use Rattle.screen_c.specs.Text.{HandsOver};
 ghost use Rattle.vt_redraw.specs.Drawable.{is_redrawable};
 ghost use Rattle.vt_redraw.specs.Redraw.{IsSameSize, Redraws, redraw_of};
 ghost use Rattle.vt_screen.specs.Screen.{IsWhole, Screen};
 
-use crate::codes::{NO_MEMORY, NOT_DRAWABLE, NOTHING, OK};
 use crate::handing_over::hand_over;
 use crate::marks::has_same_size;
-use crate::{OwnedScreen, ScreenHandle};
+use crate::{OwnedScreen, ScreenHandle, code};
 use std::alloc::Global;
 use vt_base::{Bytes, NoMemory};
 use vt_redraw::{redraw, redraw_changes, redrawable};
@@ -33,18 +33,18 @@ pub extern "C" fn vt_screen_redraw(
         → Redraws o.machine.state other (take count.new text.new)) }
 {
     match handle.take(alloc) {
-        None => NOTHING,
+        None => code::NOTHING,
         Some(owned) => {
-            let code = if redrawable(&owned.emu) {
+            let answer = if redrawable(&owned.emu) {
                 match redraw(alloc, &owned.emu) {
-                    Err(_) => NO_MEMORY,
+                    Err(_) => code::NO_MEMORY,
                     Ok(bytes) => hand_over(bytes.as_slice(), text, count),
                 }
             } else {
-                NOT_DRAWABLE
+                code::NOT_DRAWABLE
             };
             handle.put(owned);
-            code
+            answer
         }
     }
 }
@@ -69,18 +69,18 @@ pub extern "C" fn vt_screen_redraw_changes(
         → Redraws o.machine.state other (take count.new text.new)) }
 {
     match handle.take(alloc) {
-        None => NOTHING,
+        None => code::NOTHING,
         Some(owned) => {
-            let code = if redrawable(&owned.emu) {
+            let answer = if redrawable(&owned.emu) {
                 match owned.text_from_mark(alloc) {
-                    Err(_) => NO_MEMORY,
+                    Err(_) => code::NO_MEMORY,
                     Ok(bytes) => hand_over(bytes.as_slice(), text, count),
                 }
             } else {
-                NOT_DRAWABLE
+                code::NOT_DRAWABLE
             };
             handle.put(owned);
-            code
+            answer
         }
     }
 }

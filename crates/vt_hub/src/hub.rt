@@ -179,8 +179,8 @@ impl<J: Opening> Hub<J> {
     }
 
     // One look of the caller, which enters the call unless its ticket is open, and wakes those whose
-    // tickets it ended. An entered call takes its event and its memory. They are lent, so that they are moved
-    // once.
+    // tickets it ended. An entered call takes its event, and of its memory the parts that it uses. Both are
+    // lent, so that they are not moved through each function.
     fn turn<R: Wait>(
         &self,
         rt: &R,

@@ -40,8 +40,8 @@ impl<J: Opening> Pass<J> {
         self.number
     }
 
-    /// The memory that the call may need, with the kept grid if it has the size. If the call needs a grid of
-    /// another size, the kept one is freed here, so that the call, which may leave a grid, frees none.
+    /// The memory that the call may need, with the kept grid if it has the size. If the call may leave a grid,
+    /// another kept one is freed here, so that a pass has at most one grid.
     pub(crate) fn spare(&mut self, alloc: Global, e: &Event, size: Size) -> Result<Spare, NoMemory>
         ensures fits { IfOk result (λ spare. Fits size.rows size.cols e.now spare) }
         ensures same { self.new ≡ self.old }

@@ -1,11 +1,10 @@
 -- Rows that an entry leaves unchanged aren't new.
-use Rattle.std.proofs.Common.{◌≡◌, ℕ, zero, suc, ◌+◌, ◌<◌, ◌≤◌, ◌⊎◌, inl, inr, Bool, true, cond, List, [], ◌∷◌, ◌++◌, drop, length, map, flat_map, get_or, append_assoc, Option, Some, None, refl, sym, ap, subst, ◌∙◌, ⊎_elim, arith}
+use Rattle.std.proofs.Common.{◌≡◌, ℕ, zero, suc, ◌+◌, ◌<◌, ◌≤◌, ◌⊎◌, inl, inr, Bool, true, cond, List, [], ◌∷◌, ◌++◌, drop, length, map, flat_map, get_or, append_assoc, Option, Some, None, refl, sym, ap, subst, ◌∙◌, arith}
 use Rattle.std.specs.Prelude.{slice_get, option_map}
 use Rattle.std.proofs.lemmas.List.{drop-map, drop_all, at_drop_more, get_or-drop, length-drop, length-map}
 use Rattle.std.proofs.lemmas.List.Concat.{flat_map-append}
 use Rattle.std.proofs.lemmas.Option.{same_Some, slice_get-get_or, slice_get-map}
 use Rattle.std.proofs.lemmas.Slice.Eq.{bytes_eq-Decides}
-use Rattle.vt_base.specs.Bytes.{Text}
 use Rattle.vt_cells.specs.declared.cell.Cell.{Cell}
 use Rattle.vt_dump.specs.Rows.{row_text}
 use Rattle.vt_events.specs.declared.entry.Entry.{Entry}
@@ -22,7 +21,7 @@ use Rattle.vt_screen.specs.ChangedRows.{ChangesAtMost}
 use Rattle.vt_units.specs.Run.{Reached}
 use Rattle.vt_world.specs.State.{WorldState}
 use Rattle.vt_world.specs.Step.{step}
-use Rattle.vt_world.specs.Terminals.{TerminalState, machine_of, terminal_at, written_on}
+use Rattle.vt_world.specs.Terminals.{TerminalState, machine_of, terminal_at}
 
 -- a row of a grid that another grid has at the same place
 same_row : (s t : GridView) (y : ℕ) → IsFull s → y < s.rows → row_at t y ≡ row_at s y
@@ -44,19 +43,12 @@ pub all_told : (first last : ℕ) (before : List (List ℕ)) (t : GridView) → 
     → OthersAreOld first last before t
 all_told first last before t few all = λ y low out. absurd (no_others first last y t.rows few all low out)
 
--- an event that changes any rows, and a write that changes these
+-- an event may change any row
 pub any_rows : (m : Reached Screen) (rows : ℕ) (e : Event) → EventChanges 0 255 m rows e
 any_rows m rows (event.Write fd b) = inl (refl, omega arith)
 any_rows m rows (event.OpenCon k) = tt
 any_rows m rows (event.Activate fd k) = tt
 any_rows m rows e = (refl, omega arith)
-
-pub these_rows : (first last : ℕ) (m : Reached Screen) (rows fd : ℕ) (b : Text) (bytes : List ℕ) (e : Event)
-    → e ≡ event.Write fd b → bytes ≡ b.bytes
-    → (m.state.grid.rows ≡ rows) × ChangesAtMost first last m bytes → EventChanges first last m rows e
-these_rows first last m rows fd b bytes e is same some =
-    subst (EventChanges first last m rows) (sym is)
-    (inr (some.0, subst (ChangesAtMost first last m) same some.1))
 
 -- the screen of a console after a write, from the one before
 screen_after : (bytes : List ℕ) (m t : Reached Screen) (before after_it : Option TerminalState)

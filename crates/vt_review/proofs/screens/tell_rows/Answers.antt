@@ -1,6 +1,5 @@
-use Rattle.std.proofs.Common.{◌≡◌, ◌++◌, ℕ, ◌<◌, ◌≤◌, List, flat_map, map, drop, refl, sym, ap, ◌∙◌, append-nil, arith}
+use Rattle.std.proofs.Common.{◌++◌, ℕ, List, flat_map, refl, sym, ap, ◌∙◌, append-nil, arith}
 use Rattle.std.specs.Prelude.{option_copied}
-use Rattle.vt_dump.specs.Rows.{row_text}
 use Rattle.vt_review.proofs.OldRows.{first_row, from_first, none_from}
 use Rattle.vt_grid.specs.Grid.{row_at}
 use Rattle.vt_review.specs.Lines.{Told, ear_lines}

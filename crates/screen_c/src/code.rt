@@ -3,7 +3,7 @@
 /// The call succeeded.
 pub(crate) const OK: u8 = 0;
 
-/// The handle has a screen already.
+/// The handle has something already.
 pub(crate) const MADE: u8 = 1;
 
 /// A number is out of its range.
@@ -15,8 +15,8 @@ pub(crate) const NO_MEMORY: u8 = 3;
 /// The handle has nothing: it was never made, or it was freed.
 pub(crate) const NOTHING: u8 = 4;
 
-/// The room is too small, and only the length was written.
+/// The room is too small; only the length was written.
 pub(crate) const NO_ROOM: u8 = 5;
 
-/// No text draws the screen. (6 is the fault of a keymap.)
+/// No text draws this screen.
 pub(crate) const NOT_DRAWABLE: u8 = 7;
