@@ -4,16 +4,17 @@ use Rattle.std.proofs.lemmas.Bool.{cases_Bool, or_left}
 use Rattle.std.specs.Prelude.{is_some}
 use Rattle.session_order.specs.Calls.{all_over}
 use Rattle.session_order.specs.Ends.{Ends, Setup}
-use Rattle.session_order.specs.Laws.{FinishedStays, IsFromStart, RoundsAddUp, RoundsGoOn}
-use Rattle.session_order.specs.Meant.{ReplayIsMeant, plain_history}
+use Rattle.session_order.specs.Laws.{FinishedStays, IsFromStart, IsRight, RoundsAddUp, RoundsGoOn, SerialIsRight}
+use Rattle.session_order.specs.Meant.{EndsIsMeant, FollowsIsMeant, LegalIsMeant, ReplayIsMeant}
 use Rattle.session_order.specs.Follows.{Follows}
 use Rattle.session_order.specs.Serial.{IsSerial, Played, is_finished, nothing_played, round, rounds, turns}
 use Rattle.session_order.specs.Sessions.{IsRightHistory, LegalAreRight, setup_of, start_of}
-use Rattle.session_run.specs.Playing.{IsAt, PlayerView}
+use Rattle.session_run.specs.Playing.{IsAt, IsEnd}
 use Rattle.session_run.specs.Runs.{IsRightRun, run_result}
+use Rattle.session_run.specs.declared.player.Player.{Player}
 use Rattle.session_text.specs.Sessions.{SessionView}
+use Rattle.vt_events.specs.declared.entry.Entry.{Entry}
 use Rattle.vt_hub.specs.declared.run.Run.{Run}
-use Rattle.vt_journal.specs.Log.{Logged}
 use Rattle.vt_journal.specs.Room.{tail_at}
 use Rattle.vt_world.specs.History.{IsLegal, replay}
 use Rattle.session_run.proofs.Turns.{lengths}
@@ -21,12 +22,8 @@ use Rattle.session_run.proofs.Turns.{lengths}
 not_longer : (m n : ℕ) → m < n → n ≡ m → ⊥
 not_longer m n more same = omega (arith, more, same)
 
--- the end of a play
-abbrev pub IsEnd : Setup → List ℕ → PlayerView → Type 0
-IsEnd o first view = (t : Played) × IsSerial o first t × IsAt o t view
-
 -- a round in which the play stopped is its last one
-pub round_stops : RoundsAddUp → (o : Setup) (first : List ℕ) (k : ℕ) (u : Played) (view : PlayerView)
+pub round_stops : RoundsAddUp → (o : Setup) (first : List ℕ) (k : ℕ) (u : Played) (view : Player)
     → u ≡ round o (rounds o k (turns o first nothing_played)) → IsAt o u view
     → is_some view.stop ≡ true → IsEnd o first view
 round_stops sum o first k u view is at stopped =
@@ -38,7 +35,7 @@ round_stops sum o first k u view is at stopped =
     (u, serial, at)
 
 -- and so is one that made no entry
-pub round_stays : FinishedStays → RoundsAddUp → RoundsGoOn → (o : Setup) (first : List ℕ) (k : ℕ) (t u : Played) (before view : PlayerView)
+pub round_stays : FinishedStays → RoundsAddUp → RoundsGoOn → (o : Setup) (first : List ℕ) (k : ℕ) (t u : Played) (before view : Player)
     → IsFromStart o → t ≡ rounds o k (turns o first nothing_played) → u ≡ round o t
     → IsAt o t before → IsAt o u view → length view.log.entries ≡ length before.log.entries
     → IsEnd o first view
@@ -60,27 +57,6 @@ round_stays stays sum goes_on o first k t u before view start is_t is_u old at l
     λ more. absurd (not_longer (length t.history) (length u.history) more same_length) in
     ⊎_elim over (λ going. ⊎_elim longer stops (moved going)) (cases_Bool (is_finished o t))
 
--- the run of a play at its end
-pub run_serial : (o : Setup) (first : List ℕ) (t : Played) (view : PlayerView) (run : Run)
-    → IsSerial o first t → IsAt o t view → run.log ≡ view.log → run.stop ≡ view.stop
-    → IsSerial o first (run_result run)
-run_serial o first t view run serial at log stop =
-    let same : t ≡ run_result run =
-    λ i. record {
-      history = (sym at.history ∙ ap (λ (l : Logged). plain_history l.entries) (sym log)) i;
-      stop = (sym at.stop ∙ sym stop) i;
-    } in
-    subst (IsSerial o first) same serial
-
-pub run_world : ReplayIsMeant → (o : Setup) (t : Played) (view : PlayerView) (run : Run)
-    → IsAt o t view → run.world ≡ view.world → run.log ≡ view.log
-    → run.world ≡ replay o.start run.log.entries
-run_world is_meant o t view run at world log =
-    world
-    ∙ at.replayed
-    ∙ ap (replay o.start) (sym at.history ∙ ap (λ (l : Logged). plain_history l.entries) (sym log))
-    ∙ is_meant o.start run.log.entries
-
 -- a run whose history is legal, follows the programs and ends so is right
 pub right_run : (s : SessionView) → LegalAreRight s → (run : Run) → run.world ≡ replay (start_of s) run.log.entries
     → IsLegal (start_of s) run.log.entries → Follows (start_of s) s.programs run.log.entries
@@ -88,3 +64,26 @@ pub right_run : (s : SessionView) → LegalAreRight s → (run : Run) → run.wo
 right_run s laws run world legal follows ends =
     subst (λ w. IsRightHistory s w run.log.entries (tail_at run.log.entries run.stop)) (sym world)
     (laws run.log.entries (tail_at run.log.entries run.stop) legal follows ends)
+
+-- the run of a play at its end
+abbrev pub run_of : Player → Run
+run_of p = record { world = p.world; log = p.log; stop = p.stop }
+
+pub run_serial : (o : Setup) (first : List ℕ) (p : Player) → IsEnd o first p → IsSerial o first (run_result (run_of p))
+run_serial o first p end =
+    let at : IsAt o end.0 p = end.2 in
+    subst (IsSerial o first) (λ i. record { history = sym at.history i; stop = sym at.stop i }) end.1
+
+pub run_right : SerialIsRight → ReplayIsMeant → LegalIsMeant → FollowsIsMeant → EndsIsMeant → (s : SessionView)
+    → LegalAreRight s → (p : Player) → IsEnd (setup_of s) s.turns p → IsRightRun s (run_of p)
+run_right is_right replay_is legal_is follows_is ends_is s laws p end =
+    let o : Setup = setup_of s in
+    let log : List Entry = p.log.entries in
+    let at : IsAt o end.0 p = end.2 in
+    let right : IsRight o (run_result (run_of p)) =
+    is_right o s.turns (run_result (run_of p)) (run_serial o s.turns p end) in
+    right_run s laws (run_of p)
+    (at.replayed ∙ ap (replay o.start) (sym at.history) ∙ replay_is o.start log)
+    (legal_is o.start log right.legal)
+    (follows_is o.start o.programs log right.follows)
+    (ends_is o log p.stop right.ends)

@@ -8,7 +8,7 @@ use Rattle.std.proofs.lemmas.Option.{none-some, same_Some}
 use Rattle.std.specs.List.{All, range_with_len}
 use Rattle.std.specs.List.Sorted.{IsStrictlyIncreasing}
 use Rattle.std.specs.Prelude.{filter_map, is_some, option_map, slice_get}
-use Rattle.session_run.specs.Callers.{AreHooked, HasHook, callers_in, has_program}
+use Rattle.session_run.specs.Callers.{HasHook, callers_in, has_program}
 use Rattle.session_run.specs.Runs.{HasHooks, table_of}
 use Rattle.session_text.proofs.WhosePrograms.{script_at}
 use Rattle.session_text.specs.Programs.{program_by, program_of}
@@ -73,7 +73,7 @@ callers_rise programs =
 -- the tables of scripts stand at their places
 acts_there : (scripts rest : List Program) (k : ℕ) (p : Program) → All IsScriptProgram scripts
     → slice_get scripts k ≡ Some p
-    → (suc k ≤ length (filter_map table_of (scripts ++ rest)))
+    → (k < length (filter_map table_of (scripts ++ rest)))
     × HasActs p (get_or (filter_map table_of (scripts ++ rest)) k [])
 acts_there [] rest k p are is = absurd (none-some p is)
 acts_there (program.Keys bytes ∷ scripts) rest k p are is =
@@ -92,25 +92,17 @@ no_table (program.Script items acts) others is = absurd is
 not_first : (p : ℕ) → keyboard_of p ≡ None → p ≡ 0 → ⊥
 not_first p none same = none-some 0 (sym none ∙ ap keyboard_of same)
 
-hook_at : (processes keyboards : ℕ) (programs : List Program) (tables : List (List Act)) (p : ℕ) (program : Program)
+-- the hooks of a session's processes are at the places of their numbers
+pub hook_at : {processes keyboards : ℕ} {programs : List Program} {tables : List (List Act)}
     → ArePrograms processes keyboards programs → HasHooks programs tables
-    → program_of programs p ≡ Some program → HasHook tables p program
-hook_at processes keyboards programs tables p program a has is none =
-    let apart : p ≡ 0 → ⊥ = not_first p none in
+    → (p : ℕ) (program : Program) → program_of programs p ≡ Some program → HasHook tables p program
+hook_at {processes} {keyboards} {programs} {tables} a has p program is none =
     let there : slice_get a.scripts (p - 1) ≡ Some program =
-    sym (script_at processes keyboards programs a p apart) ∙ ap (program_by programs p) (sym none) ∙ is in
+    sym (script_at processes keyboards programs a p (not_first p none)) ∙ ap (program_by programs p) (sym none) ∙ is in
     let same : tables ≡ filter_map table_of (a.scripts ++ a.further) =
     has.acts ∙ ap (filter_map table_of) a.are ∙ no_table a.first (a.scripts ++ a.further) (All-head IsKeysProgram a.first a.further a.each_keys) in
     let acts = acts_there a.scripts a.further (p - 1) program a.each_script there in
-    subst (λ ts. (p ≤ length ts) × HasActs program (get_or ts (p - 1) [])) (sym same)
-    (omega (arith, apart, acts.0), acts.1)
-
--- the hooks of a session's processes are at the places of their numbers
-pub hooked : {processes keyboards : ℕ} {programs : List Program} {tables : List (List Act)}
-    → ArePrograms processes keyboards programs → HasHooks programs tables → AreHooked programs tables
-hooked {processes} {keyboards} {programs} {tables} a has = record {
-  each = λ p program is. hook_at processes keyboards programs tables p program a has is;
-}
+    subst (λ ts. (p - 1 < length ts) × HasActs program (get_or ts (p - 1) [])) (sym same) acts
 
 -- one number more of them, or one that is left out
 filter_more : (f : ℕ → Bool) (n : ℕ)

@@ -79,16 +79,14 @@ at_either q joined zero x is = inl (same_Some q x is)
 at_either q joined (suc k) x is = inr (k, is)
 
 -- one pass more is joined
-pub home_more : (programs : List Program) (here : TableId) (callers : List ℕ) (n : ℕ) (s t : StewardView) (q : PassView)
-    → callers ≡ callers_in programs → n < length callers
+pub home_more : (programs : List Program) (here : TableId) (n : ℕ) (s t : StewardView) (q : PassView)
+    → n < length (callers_in programs)
     → t.hub ≡ s.hub → t.stands ≡ set s.stands q.number Home → t.joined ≡ q ∷ s.joined
-    → IsAfterWorker programs here (get_or callers n 0) q → AreHome programs here n s
+    → IsAfterWorker programs here (get_or (callers_in programs) n 0) q → AreHome programs here n s
     → AreHome programs here (n + 1) t
-home_more programs here callers n s t q same inside hub stands joined given home =
+home_more programs here n s t q inside hub stands joined run home =
     let all : List ℕ = callers_in programs in
-    let run : IsAfterWorker programs here (get_or all n 0) q =
-    subst (λ cs. IsAfterWorker programs here (get_or cs n 0) q) same given in
-    let known = caller_known programs n (subst (λ cs. n < length cs) same inside) in
+    let known = caller_known programs n inside in
     record {
       own = hub ∙ home.own;
       size = ap length stands ∙ length-set s.stands q.number Home ∙ home.size;
@@ -104,7 +102,7 @@ home_more programs here callers n s t q same inside hub stands joined given home
           (cases_eq q.number (get_or all i 0));
       rest = λ k none.
           ap (λ (list : List PassPlace). get_or list k Unmade) stands
-          ∙ get_or-set_other s.stands q.number k Home Unmade (λ last. none n (subst (λ cs. n < length cs) same inside) (sym run.numbered ∙ sym last))
+          ∙ get_or-set_other s.stands q.number k Home Unmade (λ last. none n inside (sym run.numbered ∙ sym last))
           ∙ home.rest k none;
       ran = λ place x is. ⊎_elim
           (λ mine.

@@ -9,7 +9,8 @@ use Rattle.session_order.specs.Follows.{is_waiting}
 use Rattle.session_order.specs.Meant.{NextIsPlain, plain_history}
 use Rattle.session_order.specs.Serial.{Played, call_now, entry_at}
 use Rattle.session_order.specs.Standing.{AreAfter}
-use Rattle.session_run.specs.Playing.{IsAt, PlayerView}
+use Rattle.session_run.specs.Playing.{IsAt}
+use Rattle.session_run.specs.declared.player.Player.{Player}
 use Rattle.session_text.specs.Programs.{next, program_of}
 use Rattle.session_text.specs.declared.program.Program.{Program}
 use Rattle.vt_events.specs.Plain.{plain_entry, plain_event, plain_reply}
@@ -31,7 +32,7 @@ next_now true next e is = absurd (none-some e is)
 next_now false next e is = is
 
 -- the changes by a call of p
-pub record Enters (p : ℕ) (e : Event) (program : Program) (before after : PlayerView) : Type 0 where
+pub record Enters (p : ℕ) (e : Event) (program : Program) (before after : Player) : Type 0 where
   pub seq : ℕ
   pub reply : Reply
   pub few : length before.log.entries ≤ 1_000_000
@@ -51,7 +52,7 @@ pub record Enters (p : ℕ) (e : Event) (program : Program) (before after : Play
       → AreAfter programs (h ++ entry ∷ []) after.standing
   pub stop : after.stop ≡ before.stop
 
-pub entered : NextIsPlain → ReplayGrows → (o : Setup) (t : Played) (p : ℕ) (e : Event) (program : Program) (before after : PlayerView)
+pub entered : NextIsPlain → ReplayGrows → (o : Setup) (t : Played) (p : ℕ) (e : Event) (program : Program) (before after : Player)
     → Enters p e program before after → program_of o.programs p ≡ Some program → t.stop ≡ None
     → call_now o t.history p ≡ Some e → IsAt o t before
     → IsAt o (record { history = t.history ++ entry_at o.start t.history p e ∷ []; stop = None }) after

@@ -12,7 +12,7 @@ use Rattle.session_order.specs.Sessions.{AreOfCallers, LegalAreRight, setup_of, 
 use Rattle.session_run.proofs.Ends.{right_run}
 use Rattle.session_run.proofs.HavePrograms.{caller_at, caller_known}
 use Rattle.session_run.specs.Callers.{callers_in, has_program}
-use Rattle.session_run.specs.Racing.{AreHome, IsNone, Works}
+use Rattle.session_run.specs.Racing.{AreAllHome, IsNone, Works}
 use Rattle.session_run.specs.Runs.{IsRightRun}
 use Rattle.session_text.specs.Programs.{next, program_of}
 use Rattle.session_text.specs.Sessions.{SessionView}
@@ -41,10 +41,6 @@ none_out (s ∷ stands) each =
     count_by-cons : ◌≡◌ {A = ℕ} (cond (is_out s) 1 0) 0 → count_by is_out stands ≡ 0 → count_by is_out (s ∷ stands) ≡ 0
     count_by-cons first others = grind (arith, first, others)
 
--- all passes of these callers were joined
-abbrev pub AllHome : List Program → TableId → StewardView → Type 0
-AllHome programs here s = AreHome programs here (length (callers_in programs)) s
-
 -- a caller without a program has no pass
 no_pass : (programs : List Program) (k : ℕ) → ((has_program programs k ≡ true) → k ≤ 67 → ⊥)
     → IsNone (callers_in programs) (length (callers_in programs)) k
@@ -53,7 +49,7 @@ no_pass programs k none i within is =
     none (ap (has_program programs) (sym is) ∙ known.0) (omega (arith, known.1, is))
 
 pub all_home : (programs : List Program) (here : TableId) (s : StewardView)
-    → AllHome programs here s → count_by is_out s.stands ≡ 0
+    → AreAllHome programs here s → count_by is_out s.stands ≡ 0
 all_home programs here s home = none_out s.stands (λ k. ⊎_elim
     (λ has. ⊎_elim
     (λ past. ap is_out (home.rest k (no_pass programs k (λ _ low. let no : ⊥ = omega (arith, past, low) in no))))
@@ -65,7 +61,7 @@ all_home programs here s home = none_out s.stands (λ k. ⊎_elim
     (cases_Bool (has_program programs k)))
 
 -- the facts of a joined pass
-module _ (o : Setup) (here : TableId) (s : StewardView) (world : WorldState) (log : Logged) (stop : Option Full) (whole : IsWhole o.start o.limits s world log stop) (home : AllHome o.programs here s) (known_callers : AreOfCallers o.programs) where
+module _ (o : Setup) (here : TableId) (s : StewardView) (world : WorldState) (log : Logged) (stop : Option Full) (whole : IsWhole o.start o.limits s world log stop) (home : AreAllHome o.programs here s) (known_callers : AreOfCallers o.programs) where
   part : (place : ℕ) (x : PassView) → slice_get s.joined place ≡ Some x
       → IsPart o.start log.entries stop x
   part place x is =
@@ -155,11 +151,11 @@ pub race_right : RaceIsRight → (s : SessionView) (start : WorldState) (most : 
     → AreOfCallers s.programs → LegalAreRight s
     → start ≡ start_of s → most ≡ s.limits → programs ≡ s.programs
     → IsWhole start most steward run.world run.log run.stop
-    → AllHome programs here steward → IsRightRun s run
+    → AreAllHome programs here steward → IsRightRun s run
 race_right right s start most programs here steward run known laws is_start is_most same given taken =
     let whole : IsWhole (start_of s) s.limits steward run.world run.log run.stop =
     subst (λ st. IsWhole st s.limits steward run.world run.log run.stop) is_start
     (subst (λ m. IsWhole start m steward run.world run.log run.stop) is_most given) in
-    let home : AllHome s.programs here steward = subst (λ ps. AllHome ps here steward) same taken in
+    let home : AreAllHome s.programs here steward = subst (λ ps. AreAllHome ps here steward) same taken in
     let holds = race_holds (setup_of s) here steward run.world run.log run.stop whole home known right in
     right_run s laws run whole.replayed whole.legal holds.0 holds.1

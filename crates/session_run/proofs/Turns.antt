@@ -11,7 +11,8 @@ use Rattle.vt_journal.specs.Room.{full_at, has_room}
 use Rattle.session_order.specs.Follows.{is_waiting}
 use Rattle.session_order.specs.Serial.{Played, call_now, calls, entry_at, round, turn, turns}
 use Rattle.session_run.specs.Callers.{callers_in, has_program}
-use Rattle.session_run.specs.Playing.{IsAt, PlayerView}
+use Rattle.session_run.specs.Playing.{IsAt}
+use Rattle.session_run.specs.declared.player.Player.{Player}
 use Rattle.session_text.specs.Programs.{program_of}
 use Rattle.session_text.specs.declared.program.Program.{Program}
 use Rattle.vt_events.specs.Charge.{charge_of}
@@ -27,7 +28,7 @@ use Rattle.vt_procs.specs.Tickets.{is_open}
 use Rattle.vt_world.specs.History.{replay}
 
 -- the next call of p is the one that it can make, unless it waits
-pub now_is : (o : Setup) (t : Played) (view : PlayerView) (p : ℕ) (e : Option Event)
+pub now_is : (o : Setup) (t : Played) (view : Player) (p : ℕ) (e : Option Event)
     → e ≡ next_by o.programs p t.history
     → is_open (caller_at view.world.callers p).waiting ≡ false → IsAt o t view
     → e ≡ call_now o t.history p
@@ -82,11 +83,11 @@ not_stopped None is = refl
 not_stopped (Some full) is = absurd (true≢false is)
 
 -- the entries without rooms of bytes are as many, and have the same charge
-pub lengths : (o : Setup) (t : Played) (view : PlayerView) → IsAt o t view
+pub lengths : (o : Setup) (t : Played) (view : Player) → IsAt o t view
     → length view.log.entries ≡ length t.history
 lengths o t view at = sym (length-map view.log.entries plain_entry) ∙ ap length at.history
 
-charges : (o : Setup) (t : Played) (view : PlayerView) → IsAt o t view
+charges : (o : Setup) (t : Played) (view : Player) → IsAt o t view
     → charge_of_all view.log.entries ≡ charge_of_all t.history
 charges o t view at =
     sym
@@ -95,7 +96,7 @@ charges o t view at =
     ∙ ap charge_of_all at.history
 
 -- room in the log is room in the play
-room_is : (o : Setup) (t : Played) (view : PlayerView) (charge : ℕ) → IsAt o t view
+room_is : (o : Setup) (t : Played) (view : Player) (charge : ℕ) → IsAt o t view
     → HasRoom view.log charge → has_room o.limits t.history charge ≡ true
 room_is o t view charge at room =
     let events : view.log.limits.events ≡ o.limits.events = ap (λ (l : Limits). l.events) at.limits in
@@ -104,7 +105,7 @@ room_is o t view charge at room =
     (lt-ltb (length t.history) o.limits.events (omega (arith, room.entries, lengths o t view at, events)))
     (le-leb (charge_of_all t.history + charge) o.limits.bytes (omega (arith, room.bytes, charges o t view at, bytes)))
 
-room_from : (o : Setup) (t : Played) (view : PlayerView) (charge : ℕ) → IsAt o t view
+room_from : (o : Setup) (t : Played) (view : Player) (charge : ℕ) → IsAt o t view
     → has_room o.limits t.history charge ≡ true → HasRoom view.log charge
 room_from o t view charge at is =
     let events : view.log.limits.events ≡ o.limits.events = ap (λ (l : Limits). l.events) at.limits in
@@ -124,7 +125,7 @@ turn-calls o t p now going is =
     ∙ ap (λ e. calls o p e t.history) is
 
 -- if nothing is called, nothing changes
-pub turn_skips : (o : Setup) (t : Played) (p : ℕ) (view : PlayerView) → view.stop ≡ None
+pub turn_skips : (o : Setup) (t : Played) (p : ℕ) (view : Player) → view.stop ≡ None
     → None ≡ call_now o t.history p → IsAt o t view → IsAt o (turn o p t) view
 turn_skips o t p view going none at =
     let stop : t.stop ≡ None = sym at.stop ∙ going in
@@ -133,7 +134,7 @@ turn_skips o t p view going none at =
     subst (λ x. IsAt o x view) same at
 
 -- if there is room, the call is entered
-pub turn_enters : (o : Setup) (t : Played) (p : ℕ) (e : Event) (before view : PlayerView)
+pub turn_enters : (o : Setup) (t : Played) (p : ℕ) (e : Event) (before view : Player)
     → HasRoom before.log (charge_of e) → IsAt o t before → t.stop ≡ None
     → call_now o t.history p ≡ Some e
     → IsAt o (record { history = t.history ++ entry_at o.start t.history p e ∷ []; stop = None }) view
@@ -147,7 +148,7 @@ turn_enters o t p e before view room at going now entered =
     subst (λ x. IsAt o x view) (sym same) entered
 
 -- if there is none, the play stops
-pub turn_fills : (o : Setup) (t : Played) (p : ℕ) (e : Event) (before : PlayerView) (full : Full)
+pub turn_fills : (o : Setup) (t : Played) (p : ℕ) (e : Event) (before : Player) (full : Full)
     → (HasRoom before.log (charge_of e) → ⊥) → IsAt o t before → t.stop ≡ None
     → call_now o t.history p ≡ Some e
     → full ≡ full_at before.log.entries (charge_of e)

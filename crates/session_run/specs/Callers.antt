@@ -1,6 +1,6 @@
 -- The callers of a session that have a program, and the hooks of its processes. No public clause names
 -- this.
-use Rattle.std.specs.Prelude.{◌≡◌, ℕ, ◌-◌, ◌≤◌, Bool, List, [], filter, is_some, length, Some, None, slice_index_or}
+use Rattle.std.specs.Prelude.{◌≡◌, ℕ, ◌-◌, ◌<◌, Bool, List, [], filter, is_some, length, Some, None, slice_index_or}
 use Rattle.std.specs.List.{range_with_len}
 use Rattle.session_text.specs.Programs.{program_of}
 use Rattle.session_text.specs.Walks.{HasActs}
@@ -19,8 +19,9 @@ callers_in programs = filter (has_program programs) (range_with_len 0 callers)
 -- if caller p of this program is a process, its hook is at the place of its number
 abbrev pub HasHook : List (List Act) → ℕ → Program → Type 0
 HasHook tables p program =
-    keyboard_of p ≡ None → (p ≤ length tables) × HasActs program (slice_index_or tables (p - 1) [])
+    keyboard_of p ≡ None → (p - 1 < length tables) × HasActs program (slice_index_or tables (p - 1) [])
 
--- each process has its hook
-pub record AreHooked (programs : List Program) (tables : List (List Act)) : Type 0 where
-  pub each : (p : ℕ) (program : Program) → program_of programs p ≡ Some program → HasHook tables p program
+-- each process has its hook, and these are the callers that have a program
+pub record AreCallers (programs : List Program) (tables : List (List Act)) (list : List ℕ) : Type 0 where
+  pub hooks : (p : ℕ) (program : Program) → program_of programs p ≡ Some program → HasHook tables p program
+  pub numbers : list ≡ callers_in programs

@@ -64,3 +64,7 @@ pub record AreHome (programs : List Program) (here : TableId) (n : ℕ) (s : Ste
       (i : ℕ) → i < n
       → (place : ℕ) × (x : PassView) × (slice_get s.joined place ≡ Some x)
       × (x.number ≡ slice_index_or (callers_in programs) i 0)
+
+-- all these passes were joined
+abbrev pub AreAllHome : List Program → TableId → StewardView → Type 0
+AreAllHome programs here s = AreHome programs here (length (callers_in programs)) s

@@ -1,10 +1,9 @@
 //! A large session that is made from a number.
-ghost use Rattle.std.specs.Prelude.{◌≡◌, ◌<◌, ◌≤◌, ℕ, ◌∷◌, ◌++◌, true, length, map, IfOk, OnOk};
-ghost use Rattle.std.specs.List.{All, range_with_len};
+ghost use Rattle.std.specs.Prelude.{◌≡◌, ◌≤◌, ◌∷◌, ◌++◌, true, map, IfOk, OnOk};
+ghost use Rattle.std.specs.List.{range_with_len};
 ghost use Rattle.session_run.specs.Drill.{HasDrillKeymap, IsDrill, drill_hooks, each, item, keys, opening_calls, script};
-ghost use Rattle.session_text.specs.ItemTexts.{is_item};
 ghost use Rattle.session_text.specs.Scripts.{make_listed};
-ghost use Rattle.session_text.specs.Sessions.{ArePrograms, IsScriptProgram};
+ghost use Rattle.session_text.specs.Sessions.{ArePrograms};
 ghost use Rattle.session_text.specs.declared.program.Program.TheVariants as programs;
 ghost use Rattle.vt_events.specs.Kinds.{text};
 
@@ -34,7 +33,7 @@ pub fn drill_session(alloc: Global, n: u32, seed: u64) -> Result<Session, NoMemo
     ensures { IfOk result (IsDrill n seed) }
 {
     let tables = tables(alloc)?;
-    let programs = programs(alloc, n as usize, seed)?;
+    let programs = programs(alloc, n, seed)?;
     let config = Config {
         size: Size { rows: 25, cols: 80 },
         consoles: CONSOLE_SET,
@@ -74,7 +73,7 @@ fn starts() -> ProcList
 }
 
 // The programs of its callers.
-fn programs(alloc: Global, n: usize, seed: u64) -> Result<Vec<Program>, NoMemory>
+fn programs(alloc: Global, n: u32, seed: u64) -> Result<Vec<Program>, NoMemory>
     requires { n ≤ 10_000 }
     ensures programs { IfOk result (λ list. list.items
         ≡ programs.Keys (text (keys n)) ∷ (each (script n) 8 1 seed).0) }
@@ -90,12 +89,10 @@ fn programs(alloc: Global, n: usize, seed: u64) -> Result<Vec<Program>, NoMemory
 }
 
 // A key that goes down and up, so many times.
-fn keys(alloc: Global, n: usize) -> Result<Bytes, NoMemory>
-    requires { n ≤ 10_000 }
-    ensures keys { IfOk result (λ bytes. bytes ≡ text (keys n)) }
-    ensures few { IfOk result (λ bytes. length bytes.bytes ≤ 20_000) }
+fn keys(alloc: Global, n: u32) -> Result<Bytes, NoMemory>
+    ensures { IfOk result (λ bytes. bytes ≡ text (keys n)) }
 {
-    let mut bytes = Bytes::with_room(alloc, 2 * n)?;
+    let mut bytes = Bytes::with_room(alloc, 2 * n as usize)?;
     for _i in 0..n {
         bytes.append(b"\x1e\x9e");
     }
@@ -103,11 +100,9 @@ fn keys(alloc: Global, n: usize) -> Result<Bytes, NoMemory>
 }
 
 // The script of a process.
-fn script(alloc: Global, draws: &mut Draws, n: usize, p: u16) -> Result<Program, NoMemory>
-    requires { n ≤ 10_000 }
+fn script(alloc: Global, draws: &mut Draws, n: u32, p: u16) -> Result<Program, NoMemory>
     ensures value { IfOk result (λ made. made ≡ (script n p draws.old).0) }
     ensures next { OnOk result (draws.new ≡ (script n p draws.old).1) }
-    ensures fit { IfOk result IsScriptProgram }
 {
     let items = items(alloc, draws, n, p)?;
     Ok(Program::Script {
@@ -117,13 +112,10 @@ fn script(alloc: Global, draws: &mut Draws, n: usize, p: u16) -> Result<Program,
 }
 
 // The calls of a process: those that it begins with, and its items.
-fn items(alloc: Global, draws: &mut Draws, n: usize, p: u16) -> Result<Items, NoMemory>
-    requires { n ≤ 10_000 }
+fn items(alloc: Global, draws: &mut Draws, n: u32, p: u16) -> Result<Items, NoMemory>
     ensures value { IfOk result (λ items. items
         ≡ make_listed (opening_calls p ++ (each item n 0 draws.old).0)) }
     ensures next { OnOk result (draws.new ≡ (each item n 0 draws.old).1) }
-    ensures few { IfOk result (λ items. length items.events ≤ 10_002) }
-    ensures fit { IfOk result (λ items. All (λ e. is_item e ≡ true) items.events) }
 {
     let mut items = first_calls(alloc, n, p)?;
     for _i in 0..n {
@@ -133,13 +125,11 @@ fn items(alloc: Global, draws: &mut Draws, n: usize, p: u16) -> Result<Items, No
 }
 
 // The calls that a process begins with, and room for `n` more.
-fn first_calls(alloc: Global, n: usize, p: u16) -> Result<Items, NoMemory>
-    requires { n ≤ 10_000 }
+fn first_calls(alloc: Global, n: u32, p: u16) -> Result<Items, NoMemory>
     ensures calls { IfOk result (λ items. items.events ≡ opening_calls p) }
     ensures room { IfOk result (λ items. items.room ≡ n) }
-    ensures few { IfOk result (λ items. length items.events ≤ 2) }
-    ensures fit { IfOk result (λ items. All (λ e. is_item e ≡ true) items.events) }
 {
+    let n = n as usize;
     if p % 2 == 1 {
         let mut items = Items::with_room(alloc, n + 2)?;
         items.push(Event::OpenCon(p));

@@ -1,7 +1,6 @@
 //! The items of a drill's scripts.
-ghost use Rattle.std.specs.Prelude.{◌≡◌, ◌<◌, ◌≤◌, ℕ, ◌∷◌, ◌++◌, true, decimal, IfOk, OnOk};
+ghost use Rattle.std.specs.Prelude.{◌≡◌, ◌<◌, ◌≤◌, ℕ, ◌∷◌, ◌++◌, decimal, IfOk, OnOk};
 ghost use Rattle.session_run.specs.Drill.{wait_item, colour_item, each, item, item_of, letter, cursor_item, print_item, activate_item};
-ghost use Rattle.session_text.specs.ItemTexts.{is_item};
 ghost use Rattle.vt_events.specs.Kinds.{text};
 ghost use Rattle.vt_events.specs.declared.event.Event.TheVariants as event;
 
@@ -19,7 +18,6 @@ const DRILL_CONSOLES: u64 = 8;
 pub(crate) fn item(alloc: Global, draws: &mut Draws) -> Result<Event, NoMemory>
     ensures value { IfOk result (λ e. (p : ℕ) → e ≡ (item p draws.old).0) }
     ensures next { OnOk result ((p : ℕ) → draws.new ≡ (item p draws.old).1) }
-    ensures fit { IfOk result (λ e. is_item e ≡ true) }
 {
     let kind = draws.below(8);
     item_of(alloc, draws, kind)
@@ -29,7 +27,6 @@ pub(crate) fn item(alloc: Global, draws: &mut Draws) -> Result<Event, NoMemory>
 fn item_of(alloc: Global, draws: &mut Draws, kind: u64) -> Result<Event, NoMemory>
     ensures value { IfOk result (λ e. e ≡ (item_of kind draws.old).0) }
     ensures next { OnOk result (draws.new ≡ (item_of kind draws.old).1) }
-    ensures fit { IfOk result (λ e. is_item e ≡ true) }
 {
     match kind {
         0 => print_item(alloc, draws),
@@ -56,7 +53,6 @@ fn console(draws: &mut Draws) -> u16
 fn print_item(alloc: Global, draws: &mut Draws) -> Result<Event, NoMemory>
     ensures value { IfOk result (λ e. e ≡ (print_item draws.old).0) }
     ensures next { OnOk result (draws.new ≡ (print_item draws.old).1) }
-    ensures fit { IfOk result (λ e. is_item e ≡ true) }
 {
     let n = 1 + draws.below(32);
     let letters = letters(alloc, draws, n as usize)?;
@@ -79,7 +75,6 @@ fn letters(alloc: Global, draws: &mut Draws, n: usize) -> Result<Bytes, NoMemory
 fn cursor_item(alloc: Global, draws: &mut Draws) -> Result<Event, NoMemory>
     ensures value { IfOk result (λ e. e ≡ (cursor_item draws.old).0) }
     ensures next { OnOk result (draws.new ≡ (cursor_item draws.old).1) }
-    ensures fit { IfOk result (λ e. is_item e ≡ true) }
 {
     let row = 1 + draws.below(25);
     let column = 1 + draws.below(80);
@@ -95,7 +90,6 @@ fn cursor_item(alloc: Global, draws: &mut Draws) -> Result<Event, NoMemory>
 fn colour_item(alloc: Global, draws: &mut Draws) -> Result<Event, NoMemory>
     ensures value { IfOk result (λ e. e ≡ (colour_item draws.old).0) }
     ensures next { OnOk result (draws.new ≡ (colour_item draws.old).1) }
-    ensures fit { IfOk result (λ e. is_item e ≡ true) }
 {
     let colour = 30 + draws.below(8);
     let mut text = Bytes::from_slice(alloc, b"\x1b[")?;

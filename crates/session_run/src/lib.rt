@@ -1,6 +1,7 @@
 //! The play of a session, on one thread, and its race, in which each caller has a thread of its own.
 #![tactic(auto)]
 
+mod caller;
 mod callers;
 mod drill;
 mod drill_draws;

@@ -1,37 +1,38 @@
 //! The passes of a race: made, lent to the workers, and joined.
-ghost use Rattle.std.specs.Prelude.{◌≡◌, ℕ, ◌<◌, [], None, length, vec_len, IfOk, OnOk, slice_index_or};
-ghost use Rattle.std.specs.List.Sorted.{IsStrictlyIncreasing};
+ghost use Rattle.std.specs.Prelude.{◌≡◌, ℕ, ◌<◌, length, vec_len, IfOk, OnOk, slice_index_or};
 ghost use Rattle.std.specs.Thread.{IsSync};
-ghost use Rattle.session_run.specs.Callers.{AreHooked, callers_in};
-ghost use Rattle.session_run.specs.Racing.{AreFresh, AreHome, IsAfterWorker, IsSplit};
+ghost use Rattle.session_run.specs.Callers.{callers_in};
+ghost use Rattle.session_run.specs.Racing.{AreAllHome, AreFresh, IsAfterWorker, IsFresh, IsSplit};
+ghost use Rattle.session_text.specs.Programs.{program_of};
 
+use crate::callers::Callers;
 use crate::pace::Pace;
 use crate::worker::work;
-use session_text::{Program, program_of};
-use sig_hooks::{Handler, Hook};
+use sig_hooks::Handler;
 use std::alloc::Global;
 use std::sync::Wait;
 use std::thread;
 use std::thread::Threads;
-use vt_base::{CallerNo, NoMemory};
+use vt_base::NoMemory;
 use vt_hub::{Hub, Opening, Pass, Seat, Steward};
 use vt_io::Gate;
 
-/// A pass for each of these callers.
-pub(crate) fn split_all<J: Opening>(
+/// A pass for each caller.
+pub(crate) fn split_all<J: Opening, H: Handler>(
     alloc: Global,
     hub: &Hub<J>,
     steward: &mut Steward<J>,
-    callers: &[CallerNo],
+    callers: &Callers<'_, H>,
 ) -> Result<Vec<Pass<J>>, NoMemory>
-    requires rising { IsStrictlyIncreasing callers.now }
-    requires fresh { IsSplit hub.now callers.now 0 steward.old }
-    ensures len { IfOk result (λ passes. vec_len passes ≡ length callers.now) }
-    ensures passes { IfOk result (λ passes. AreFresh hub.now callers.now passes.items) }
-    ensures steward { OnOk result (IsSplit hub.now callers.now (length callers.now) steward.new) }
+    requires { IsSplit hub.now (callers_in callers.now) 0 steward.old }
+    ensures len { IfOk result (λ passes. vec_len passes ≡ length (callers_in callers.now)) }
+    ensures passes { IfOk result (λ passes. AreFresh hub.now (callers_in callers.now) passes.items) }
+    ensures steward { OnOk result (IsSplit hub.now (callers_in callers.now)
+        (length (callers_in callers.now)) steward.new) }
 {
+    let numbers = callers.numbers();
     let mut passes = Vec::new(alloc);
-    for p in callers {
+    for p in numbers {
         passes.push(hub.split(steward, *p))?;
     }
     Ok(passes)
@@ -45,29 +46,24 @@ pub(crate) fn work_all<
     R: Threads + Wait + Sync,
 >(
     seat: &Seat<J, R>,
-    callers: &[CallerNo],
     passes: Vec<Pass<J>>,
-    programs: &[Program],
-    hooks: &[Hook<H>],
+    callers: &Callers<'_, H>,
     gate: &G,
 ) -> Result<Vec<Result<Pass<J>, NoMemory>>, NoMemory>
-    requires passes { AreFresh seat.now callers.now passes.items }
-    requires len { vec_len passes ≡ length callers.now }
-    requires hooks { AreHooked programs.now hooks.now }
-    ensures len { IfOk result (λ ran. vec_len ran ≡ length callers.now) }
-    ensures ran { IfOk result (λ ran. (i : ℕ) (d : _) → i < length callers.now
+    requires passes { AreFresh seat.now (callers_in callers.now) passes.items }
+    requires len { vec_len passes ≡ length (callers_in callers.now) }
+    ensures len { IfOk result (λ ran. vec_len ran ≡ length (callers_in callers.now)) }
+    ensures ran { IfOk result (λ ran. (i : ℕ) (d : _) → i < length (callers_in callers.now)
         → IfOk (slice_index_or ran.items i d)
-        (λ q. IsAfterWorker programs.now seat.now (slice_index_or callers.now i 0) q)) }
+        (λ q. IsAfterWorker callers.now seat.now (slice_index_or (callers_in callers.now) i 0) q)) }
 {
     // Each of these callers has a program, so each worker begins and ends at this pace.
-    let pace = Pace::of(callers.len());
+    let pace = Pace::of(passes.len());
     let pace = &pace;
     let run = move |pass: Pass<J>| -> Result<Pass<J>, NoMemory>
-        requires { IsSync R.row × IsSync G.row
-            × (pass.hub ≡ seat.now) × (pass.mine ≡ []) × (pass.stop ≡ None)
-            × AreHooked programs.now hooks.now }
-        ensures { IfOk result (λ q. IsAfterWorker programs.entry.now seat.entry.now pass.number q) }
-    { work_one(seat, pass, programs, hooks, gate, pace) };
+        requires { IsSync R.row × IsSync G.row × IsFresh seat.now pass.number pass }
+        ensures { IfOk result (λ q. IsAfterWorker callers.entry.now seat.entry.now pass.number q) }
+    { work_one(seat, pass, callers, gate, pace) };
     Ok(thread::map_vec(seat.rt, passes, &run)?)
 }
 
@@ -75,40 +71,35 @@ pub(crate) fn work_all<
 fn work_one<J: Opening, H: Handler, G: Gate, R: Wait>(
     seat: &Seat<J, R>,
     pass: Pass<J>,
-    programs: &[Program],
-    hooks: &[Hook<H>],
+    callers: &Callers<'_, H>,
     gate: &G,
     pace: &Pace,
 ) -> Result<Pass<J>, NoMemory>
-    requires own { pass.hub ≡ seat.now }
-    requires fresh { (pass.mine ≡ []) × (pass.stop ≡ None) }
-    requires hooks { AreHooked programs.now hooks.now }
-    ensures { IfOk result (λ q. IsAfterWorker programs.now seat.now pass.number q) }
+    requires { IsFresh seat.now pass.number pass }
+    ensures { IfOk result (λ q. IsAfterWorker callers.now seat.now pass.number q) }
 {
-    let Some(program) = program_of(programs, pass.number()) else {
+    let Some(caller) = callers.get(pass.number()) else {
         return Ok(pass);
     };
     let mut stride = pace.begin();
-    let ran = work(seat, pass, program, hooks, gate, &mut stride);
+    let ran = work(seat, pass, &caller, gate, &mut stride);
     stride.end();
     ran
 }
 
 /// Joins every pass.
-pub(crate) fn join_all<J: Opening>(
+pub(crate) fn join_all<J: Opening, H: Handler>(
     hub: &Hub<J>,
     steward: &mut Steward<J>,
     ran: Vec<Result<Pass<J>, NoMemory>>,
-    programs: &[Program],
-    callers: &[CallerNo],
+    callers: &Callers<'_, H>,
 ) -> Result<(), NoMemory>
-    requires callers { callers.now ≡ callers_in programs.now }
-    requires split { IsSplit hub.now callers.now (length callers.now) steward.old }
-    requires len { vec_len ran ≡ length callers.now }
-    requires ran { (i : ℕ) (d : _) → i < length callers.now
+    requires split { IsSplit hub.now (callers_in callers.now) (length (callers_in callers.now)) steward.old }
+    requires len { vec_len ran ≡ length (callers_in callers.now) }
+    requires ran { (i : ℕ) (d : _) → i < length (callers_in callers.now)
         → IfOk (slice_index_or ran.items i d)
-        (λ q. IsAfterWorker programs.now hub.now (slice_index_or callers.now i 0) q) }
-    ensures { OnOk result (AreHome programs.now hub.now (length callers.now) steward.new) }
+        (λ q. IsAfterWorker callers.now hub.now (slice_index_or (callers_in callers.now) i 0) q) }
+    ensures { OnOk result (AreAllHome callers.now hub.now steward.new) }
 {
     for outcome in ran {
         let pass = outcome?;

@@ -1,16 +1,16 @@
 ghost use Rattle.std.specs.Prelude.{◌≡◌, ◌∷◌, ◌++◌, [], None, Some, IfOk, OnOk};
 ghost use Rattle.session_order.specs.Ends.{Setup};
-ghost use Rattle.session_order.specs.Serial.{Played, call_now, entry_at, nothing_played, turn};
-ghost use Rattle.session_run.specs.Playing.{IsAt};
+ghost use Rattle.session_order.specs.Serial.{IsSerial, Played, call_now, entry_at, nothing_played, turn};
 ghost use Rattle.session_order.specs.Sessions.{setup_of};
+ghost use Rattle.session_run.specs.Playing.{IsAt, IsEnd};
+ghost use Rattle.session_run.specs.Runs.{IsRightRun, run_result};
 ghost use Rattle.session_text.specs.Programs.{program_of};
 ghost use Rattle.vt_events.specs.Charge.{charge_of};
 ghost use Rattle.vt_journal.specs.Log.{HasRoom};
 
-use session_order::{SessionProgress, meant_laws, start_of};
+use session_order::{SessionProgress, meant_laws, serial_laws, session_laws, start_of};
 use session_text::{Program, Session};
 use std::alloc::Global;
-use std::marker::Model;
 use vt_base::{CallerNo, NoMemory};
 use vt_events::{Entry, Event, charge};
 use vt_hub::Run;
@@ -24,19 +24,6 @@ pub(crate) struct Player {
     pub(crate) log: Log,
     pub(crate) standing: SessionProgress,
     pub(crate) stop: Option<Full>,
-}
-
-impl Model for Player {
-    ghost use Rattle.session_run.specs.Playing.{PlayerView};
-
-    ghost Value = { PlayerView };
-
-    ghost view = { λ p. record {
-      world = p.world;
-      log = p.log;
-      standing = p.standing;
-      stop = p.stop;
-    } };
 }
 
 impl Player {
@@ -82,12 +69,15 @@ impl Player {
         Ok(())
     }
 
-    /// The run that was played.
-    pub(crate) fn end(self) -> Run
-        ensures world { result.world ≡ self.world }
-        ensures log { result.log ≡ self.log }
-        ensures stop { result.stop ≡ self.stop }
+    /// The run of the session that was played to its end.
+    pub(crate) fn end(self, s: &Session) -> Run
+        requires { IsEnd (setup_of s.now) s.now.turns self }
+        ensures serial { IsSerial (setup_of s.now) s.now.turns (run_result result) }
+        ensures right { IsRightRun s.now result }
     {
+        serial_laws();
+        meant_laws();
+        session_laws(s);
         let Player {
             world,
             log,

@@ -3,7 +3,7 @@ ghost use Rattle.std.specs.Prelude.{◌≡◌, IfOk};
 ghost use Rattle.session_order.specs.Sessions.{start_of};
 ghost use Rattle.session_run.specs.Runs.{HasHooks, IsRightRun, MakesHandlers};
 
-use crate::callers::callers_in;
+use crate::callers::Callers;
 use crate::hooks::hooks_by;
 use crate::passes::{join_all, split_all, work_all};
 use session_order::{race_laws, session_laws, start_of};
@@ -31,7 +31,7 @@ pub fn race<H: Handler + Send + Sync, G: Gate + Sync, R: Threads + Wait + Sync>(
     requires hooks { HasHooks s.now.programs hooks.items }
     ensures { IfOk result (IsRightRun s.now) }
 {
-    race_in::<Brand, H, G, R>(rt, alloc, s, &hooks, gate)
+    race_in::<Brand, H, G, R>(rt, alloc, s, hooks, gate)
 }
 
 /// Races the session with hooks that read the tables of its processes.
@@ -72,27 +72,25 @@ fn race_in<
     H: Handler + Send + Sync,
     G: Gate + Sync,
     R: Threads + Wait + Sync,
->(rt: &R, alloc: Global, s: &Session, hooks: &[Hook<H>], gate: &G) -> Result<Run, NoMemory>
+>(rt: &R, alloc: Global, s: &Session, hooks: Vec<Hook<H>>, gate: &G) -> Result<Run, NoMemory>
     requires start { J.start ≡ start_of s.now }
     requires limits { J.limits ≡ s.now.limits }
-    requires hooks { HasHooks s.now.programs hooks.now }
+    requires hooks { HasHooks s.now.programs hooks.items }
     ensures { IfOk result (IsRightRun s.now) }
 {
     race_laws();
     session_laws(s);
     nobody_waits_at_start();
-    let programs = s.programs();
+    let callers = Callers::of(alloc, s, hooks)?;
     let world = start_of(alloc, s)?;
     let (hub, mut steward) = Hub::<J>::open(alloc, world, s.limits())?;
-    let callers = callers_in(alloc, programs)?;
-    let callers = callers.as_slice();
-    let passes = split_all(alloc, &hub, &mut steward, callers)?;
+    let passes = split_all(alloc, &hub, &mut steward, &callers)?;
     let seat = Seat {
         rt,
         alloc,
         hub: &hub,
     };
-    let ran = work_all(&seat, callers, passes, programs, hooks, gate)?;
-    join_all(&hub, &mut steward, ran, programs, callers)?;
+    let ran = work_all(&seat, passes, &callers, gate)?;
+    join_all(&hub, &mut steward, ran, &callers)?;
     Ok(hub.close(steward))
 }

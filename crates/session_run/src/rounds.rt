@@ -1,14 +1,13 @@
 ghost use Rattle.std.specs.Prelude.{◌≡◌, ◌≤◌, ℕ, List, All, OnOk};
 ghost use Rattle.session_order.specs.Ends.{Setup};
 ghost use Rattle.session_order.specs.Laws.{IsFromStart};
-ghost use Rattle.session_order.specs.Serial.{IsSerial, Played, nothing_played, round, turns};
-ghost use Rattle.session_run.specs.Callers.{AreHooked, callers_in};
-ghost use Rattle.session_run.specs.Playing.{IsAt};
+ghost use Rattle.session_order.specs.Serial.{Played, nothing_played, round, turns};
+ghost use Rattle.session_run.specs.Playing.{IsAt, IsEnd};
 
+use crate::callers::Callers;
 use crate::player::Player;
 use session_order::serial_laws;
-use session_text::Program;
-use sig_hooks::{Handler, Hook};
+use sig_hooks::Handler;
 use std::alloc::Global;
 use vt_base::{CallerNo, NoMemory};
 
@@ -17,18 +16,16 @@ impl Player {
     pub(crate) fn turns<H: Handler>(
         &mut self,
         alloc: Global,
-        programs: &[Program],
-        hooks: &[Hook<H>],
-        callers: &[u8],
+        callers: &Callers<'_, H>,
+        first: &[u8],
     ) -> Result<(), NoMemory>
-        requires hooks { AreHooked programs.now hooks.now }
-        requires known { All (λ p. p ≤ 67) callers.now }
-        ensures { OnOk result ((o : Setup) (t : Played) → o.programs ≡ programs.now
-            → IsAt o t self.old → IsAt o (turns o callers.now t) self.new) }
+        requires { All (λ p. p ≤ 67) first.now }
+        ensures { OnOk result ((o : Setup) (t : Played) → o.programs ≡ callers.now
+            → IsAt o t self.old → IsAt o (turns o first.now t) self.new) }
     {
-        for caller in callers {
-            let p = CallerNo::numbered(u16::from(*caller));
-            self.turn(alloc, programs, hooks, p)?;
+        for n in first {
+            let p = CallerNo::numbered(u16::from(*n));
+            self.turn(alloc, callers, p)?;
         }
         Ok(())
     }
@@ -37,17 +34,14 @@ impl Player {
     pub(crate) fn round<H: Handler>(
         &mut self,
         alloc: Global,
-        programs: &[Program],
-        hooks: &[Hook<H>],
-        callers: &[CallerNo],
+        callers: &Callers<'_, H>,
     ) -> Result<(), NoMemory>
-        requires hooks { AreHooked programs.now hooks.now }
-        requires callers { callers.now ≡ callers_in programs.now }
-        ensures { OnOk result ((o : Setup) (t : Played) → o.programs ≡ programs.now
+        ensures { OnOk result ((o : Setup) (t : Played) → o.programs ≡ callers.now
             → IsAt o t self.old → IsAt o (round o t) self.new) }
     {
-        for p in callers {
-            self.turn(alloc, programs, hooks, *p)?;
+        let numbers = callers.numbers();
+        for p in numbers {
+            self.turn(alloc, callers, *p)?;
         }
         Ok(())
     }
@@ -57,23 +51,18 @@ impl Player {
     pub(crate) fn rounds<H: Handler>(
         &mut self,
         alloc: Global,
-        programs: &[Program],
-        hooks: &[Hook<H>],
-        callers: &[CallerNo],
+        callers: &Callers<'_, H>,
         events: u32,
     ) -> Result<(), NoMemory>
-        requires hooks { AreHooked programs.now hooks.now }
-        requires callers { callers.now ≡ callers_in programs.now }
-        requires events { events ≤ 1_000_000 }
+        requires { events ≤ 1_000_000 }
         ensures { OnOk result ((o : Setup) (first : List ℕ) → IsFromStart o
-            → o.programs ≡ programs.now → o.limits.events ≡ events
-            → IsAt o (turns o first nothing_played) self.old
-            → (t : Played) × IsSerial o first t × IsAt o t self.new) }
+            → o.programs ≡ callers.now → o.limits.events ≡ events
+            → IsAt o (turns o first nothing_played) self.old → IsEnd o first self.new) }
     {
         serial_laws();
         for _round in 0..events + 1 {
             let before = self.log.entries().len();
-            self.round(alloc, programs, hooks, callers)?;
+            self.round(alloc, callers)?;
             if self.stop.is_some() {
                 return Ok(());
             }

@@ -3,10 +3,10 @@ ghost use Rattle.session_order.specs.Serial.{IsSerial};
 ghost use Rattle.session_order.specs.Sessions.{setup_of};
 ghost use Rattle.session_run.specs.Runs.{IsRightRun, MakesHandlers, run_result};
 
-use crate::callers::callers_in;
+use crate::callers::Callers;
 use crate::hooks::hooks_by;
 use crate::player::Player;
-use session_order::{meant_laws, serial_laws, session_laws};
+use session_order::session_laws;
 use session_text::Session;
 use sig_hooks::{Handler, HookTable};
 use std::alloc::Global;
@@ -32,19 +32,14 @@ fn play_by<H: Handler, M: Fn(HookTable) -> H>(
     ensures serial { IfOk result (λ run. IsSerial (setup_of s.now) s.now.turns (run_result run)) }
     ensures right { IfOk result (IsRightRun s.now) }
 {
-    serial_laws();
-    meant_laws();
     session_laws(s);
     let _starts = s.config().procs.as_slice();
-    let programs = s.programs();
     let first = s.turns();
     let limits = s.limits();
-    let hooks = hooks_by(alloc, programs, make)?;
-    let hooks = hooks.as_slice();
-    let callers = callers_in(alloc, programs)?;
-    let callers = callers.as_slice();
+    let hooks = hooks_by(alloc, s.programs(), make)?;
+    let callers = Callers::of(alloc, s, hooks)?;
     let mut player = Player::open(alloc, s)?;
-    player.turns(alloc, programs, hooks, first)?;
-    player.rounds(alloc, programs, hooks, callers, limits.events)?;
-    Ok(player.end())
+    player.turns(alloc, &callers, first)?;
+    player.rounds(alloc, &callers, limits.events)?;
+    Ok(player.end(s))
 }

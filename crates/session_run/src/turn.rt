@@ -1,14 +1,13 @@
 ghost use Rattle.std.specs.Prelude.{◌≡◌, Some, IfOk, OnOk};
 ghost use Rattle.session_order.specs.Ends.{Setup};
 ghost use Rattle.session_order.specs.Serial.{Played, call_now, turn};
-ghost use Rattle.session_run.specs.Callers.{AreHooked, HasHook};
 ghost use Rattle.session_run.specs.Playing.{IsAt};
 ghost use Rattle.session_text.specs.Programs.{program_of};
 
-use crate::callers::next_call;
+use crate::caller::Caller;
+use crate::callers::Callers;
 use crate::player::Player;
-use session_text::{Program, program_of};
-use sig_hooks::{Handler, Hook};
+use sig_hooks::Handler;
 use std::alloc::Global;
 use vt_base::{CallerNo, NoMemory};
 use vt_events::Event;
@@ -18,23 +17,21 @@ impl Player {
     pub(crate) fn turn<H: Handler>(
         &mut self,
         alloc: Global,
-        programs: &[Program],
-        hooks: &[Hook<H>],
+        callers: &Callers<'_, H>,
         p: CallerNo,
     ) -> Result<(), NoMemory>
-        requires { AreHooked programs.now hooks.now }
-        ensures { OnOk result ((o : Setup) (t : Played) → o.programs ≡ programs.now
+        ensures { OnOk result ((o : Setup) (t : Played) → o.programs ≡ callers.now
             → IsAt o t self.old → IsAt o (turn o p t) self.new) }
     {
         if self.stop.is_some() {
             return Ok(());
         }
-        let Some(program) = program_of(programs, p) else {
+        let Some(caller) = callers.get(p) else {
             return Ok(());
         };
-        match self.next(alloc, program, hooks, p)? {
+        match self.next(alloc, &caller, p)? {
             Some(event) => {
-                self.call(alloc, program, p, event)?;
+                self.call(alloc, caller.program(), p, event)?;
                 Ok(())
             }
             None => Ok(()),
@@ -45,18 +42,16 @@ impl Player {
     fn next<H: Handler>(
         &self,
         alloc: Global,
-        program: &Program,
-        hooks: &[Hook<H>],
+        caller: &Caller<'_, H>,
         p: CallerNo,
     ) -> Result<Option<Event>, NoMemory>
-        requires { HasHook hooks.now p program.now }
         ensures { IfOk result (λ e. (o : Setup) (t : Played)
-            → program_of o.programs p ≡ Some program.now
+            → program_of o.programs p ≡ Some caller.now
             → IsAt o t self.now → e ≡ call_now o t.history p) }
     {
         if self.world.waiting(p) {
             return Ok(None);
         }
-        next_call(alloc, self.standing.walk(p), program, hooks, p)
+        caller.next_call(alloc, self.standing.walk(p))
     }
 }

@@ -1,13 +1,12 @@
 //! The worker of one caller of a race.
-ghost use Rattle.std.specs.Prelude.{◌≡◌, [], None, IfOk};
-ghost use Rattle.session_run.specs.Callers.{HasHook};
-ghost use Rattle.session_run.specs.Racing.{Works};
+ghost use Rattle.std.specs.Prelude.{◌≡◌, IfOk};
+ghost use Rattle.session_run.specs.Racing.{IsFresh, Works};
 
-use crate::callers::next_call;
+use crate::caller::Caller;
 use crate::pace::Stride;
 use session_order::{meant_laws, race_laws};
-use session_text::{Program, Walk, waits_are_ended};
-use sig_hooks::{Handler, Hook};
+use session_text::{Walk, waits_are_ended};
+use sig_hooks::Handler;
 use std::sync::Wait;
 use vt_base::NoMemory;
 use vt_hub::{Answer, Opening, Pass, Seat};
@@ -18,27 +17,25 @@ use vt_io::Gate;
 pub(crate) fn work<J: Opening, H: Handler, G: Gate, R: Wait>(
     seat: &Seat<J, R>,
     pass: Pass<J>,
-    program: &Program,
-    hooks: &[Hook<H>],
+    caller: &Caller<'_, H>,
     gate: &G,
     stride: &mut Stride<'_>,
 ) -> Result<Pass<J>, NoMemory>
-    requires own { pass.hub ≡ seat.now }
-    requires fresh { (pass.mine ≡ []) × (pass.stop ≡ None) }
-    requires hook { HasHook hooks.now pass.number program.now }
+    requires { IsFresh seat.now pass.number pass }
     ensures own { IfOk result (λ q. q.hub ≡ seat.now) }
     ensures number { IfOk result (λ q. q.number ≡ pass.number) }
-    ensures works { IfOk result (λ q. Works program.now q) }
+    ensures works { IfOk result (λ q. Works caller.now q) }
 {
     meant_laws();
     race_laws();
     waits_are_ended();
     let p = pass.number();
+    let program = caller.program();
     let mut pass = pass;
     let mut walk = Walk::start();
     let mut seq = 0u32;
     for _ in seat.rt.forever() {
-        let Some(event) = next_call(seat.alloc, &walk, program, hooks, p)? else {
+        let Some(event) = caller.next_call(seat.alloc, &walk)? else {
             return Ok(pass);
         };
         gate.before(seat.rt, p, seq);

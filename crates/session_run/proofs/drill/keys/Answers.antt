@@ -1,5 +1,5 @@
-use Rattle.std.proofs.Common.{ap, length, ◌++◌, ◌∷◌, [], ◌∙◌, arith, add-one, sym}
-use Rattle.session_run.proofs.Drilling.{keys_more, length-keys}
+use Rattle.std.proofs.Common.{ap, ◌++◌, ◌∷◌, [], ◌∙◌, arith, add-one, sym}
+use Rattle.session_run.proofs.Drilling.{keys_more}
 use Rattle.session_run.specs.Drill.{keys}
 use Rattle.session_run.proofs.drill.keys.Goals as goal
 
@@ -12,7 +12,3 @@ loop-i-preserved c = record {
       ∙ ap keys (sym (add-one c.loop-i._i));
   room = omega (arith, c.append.ensures.room, c.loop-i.invariant.room);
 }
-
-pub returns-clause-few : goal.returns-clause-few
-returns-clause-few c =
-    omega (arith, ap length c.loop-i.invariant.keys, length-keys c.loop-i._i, c.loop-i.auto._i-end, c.requires)

@@ -4,7 +4,7 @@ use Rattle.session_run.specs.Racing.{AreFresh, IsSplit}
 
 abbrev pub invariant-loop-p : goal.invariant-loop-p
 invariant-loop-p g l = record {
-  split : IsSplit l.hub l.callers l.p-index l.steward;
+  split : IsSplit l.hub l.numbers l.p-index l.steward;
   many : length l.passes.items ≡ l.p-index;
-  fresh : AreFresh l.hub l.callers l.passes.items;
+  fresh : AreFresh l.hub l.numbers l.passes.items;
 }

@@ -1,11 +1,8 @@
-use Rattle.std.proofs.Common.{length, sym, ap, ◌∙◌, subst}
-use Rattle.std.specs.List.Sorted.{IsStrictlyIncreasing}
+use Rattle.std.proofs.Common.{sym, ap, ◌∙◌}
 use Rattle.session_order.specs.Sessions.{start_of}
-use Rattle.session_run.proofs.HavePrograms.{callers_rise, hooked}
 use Rattle.session_run.proofs.Joins.{split_start}
 use Rattle.session_run.proofs.Races.{all_home, race_right}
-use Rattle.session_run.specs.Racing.{AreHome}
-use Rattle.session_run.specs.Runs.{HasHooks}
+use Rattle.session_run.specs.Callers.{callers_in}
 use Rattle.vt_hub.specs.Views.{view_at_open}
 use Rattle.vt_world.specs.State.{is_waiting}
 use Rattle.session_run.proofs.racing.race_in.Goals as goal
@@ -18,31 +15,17 @@ open-requires-clause-free g c = λ p.
     ap (λ w. is_waiting w p) c.in_ok-world.ensures
     ∙ c.nobody_waits_at_start.ensures (start_of c.args.s.now) c.session_laws.ensures.start p
 
-pub split_all-requires-clause-rising : goal.split_all-requires-clause-rising
-split_all-requires-clause-rising g c =
-    subst IsStrictlyIncreasing (sym (c.as_slice-callers.ensures.value ∙ c.in_ok-callers.ensures)) (callers_rise c.programs-programs.result.now)
-
-pub split_all-requires-clause-fresh : goal.split_all-requires-clause-fresh
-split_all-requires-clause-fresh g c =
-    split_start (start_of c.args.s.now) c.in_ok-hub.hub c.as_slice-callers.result.now c.in_ok-hub.steward
+pub split_all-requires : goal.split_all-requires
+split_all-requires g c =
+    split_start (start_of c.args.s.now) c.in_ok-hub.hub (callers_in c.in_ok-callers.callers) c.in_ok-hub.steward
     (c.in_ok-hub.ensures ∙ ap (λ w. view_at_open w c.in_ok-hub.hub) c.requires.start)
-
--- the hooks are those of the session's processes
-pub work_all-requires-clause-hooks : goal.work_all-requires-clause-hooks
-work_all-requires-clause-hooks g c κs within =
-    hooked c.programs-programs.ensures.are
-    (subst (λ ps. HasHooks ps c.args.hooks.now) (sym c.programs-programs.ensures.same) c.requires.hooks)
 
 pub close-requires-clause-all : goal.close-requires-clause-all
 close-requires-clause-all g c =
-    all_home c.programs-programs.result.now c.in_ok-hub.hub c.join_all.new.steward
-    (subst (λ callers. AreHome c.programs-programs.result.now c.in_ok-hub.hub (length callers) c.join_all.new.steward)
-    (c.as_slice-callers.ensures.value ∙ c.in_ok-callers.ensures) c.in_ok-join_all.ensures)
+    all_home c.in_ok-callers.callers c.in_ok-hub.hub c.join_all.new.steward c.in_ok-join_all.ensures
 
 pub returns : goal.returns
 returns g c =
-    race_right c.race_laws.ensures.right c.args.s.now _ _ c.programs-programs.result.now c.in_ok-hub.hub c.join_all.new.steward c.close.result
+    race_right c.race_laws.ensures.right c.args.s.now _ _ c.in_ok-callers.callers c.in_ok-hub.hub c.join_all.new.steward c.close.result
     c.session_laws.ensures.programs c.session_laws.ensures.right
-    c.requires.start c.requires.limits c.programs-programs.ensures.same c.close.ensures
-    (subst (λ callers. AreHome c.programs-programs.result.now c.in_ok-hub.hub (length callers) c.join_all.new.steward)
-    (c.as_slice-callers.ensures.value ∙ c.in_ok-callers.ensures) c.in_ok-join_all.ensures)
+    c.requires.start c.requires.limits c.in_ok-callers.ensures c.close.ensures c.in_ok-join_all.ensures

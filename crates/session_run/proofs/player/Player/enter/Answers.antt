@@ -1,23 +1,17 @@
-use Rattle.std.proofs.Common.{arith, length, refl, sym, ap, subst}
+use Rattle.std.proofs.Common.{arith, length, refl, ap}
 use Rattle.session_run.proofs.Plays.{Enters, entered}
-use Rattle.session_run.specs.Playing.{IsAt, PlayerView}
+use Rattle.session_run.specs.declared.player.Player.{Player}
 use Rattle.session_run.proofs.player.Player.enter.Goals as goal
 
 pub returns : goal.returns
 returns c = λ o t is going now at.
-    let before : PlayerView = record {
-      world = c.self.inside.world;
-      log = c.self.inside.log;
-      standing = c.self.inside.standing;
-      stop = c.self.inside.stop;
-    } in
-    let after : PlayerView = record {
+    let after : Player = record {
       world = c.call.new.self;
       log = c.push_counted.new.self;
       standing = c.took.new.self;
-      stop = c.self.inside.stop;
+      stop = c.args.self.now.stop;
     } in
-    let enters : Enters c.args.p c.args.event c.args.program.now before after = record {
+    let enters : Enters c.args.p c.args.event c.args.program.now c.args.self.now after = record {
       seq = c.count-seq.result;
       reply = c.in_ok-reply.reply;
       few = omega (arith, ap length c.entries-entries.ensures.same, c.entries-entries.ensures.most);
@@ -28,4 +22,4 @@ returns c = λ o t is going now at.
       stop = refl;
     } in
     entered c.meant_laws.ensures.plain c.legal_grows.ensures.replay o t c.args.p c.args.event c.args.program.now
-    before after enters is going now (subst (IsAt o t) (sym c.self.view_is) at)
+    c.args.self.now after enters is going now at

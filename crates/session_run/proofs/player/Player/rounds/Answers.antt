@@ -1,8 +1,7 @@
 use Rattle.std.proofs.Common.{◌≡◌, ◌+◌, arith, length, refl, sym, ap, ◌∙◌, subst}
 use Rattle.session_order.specs.Serial.{Played, nothing_played, round, rounds, turns}
 use Rattle.session_run.proofs.Ends.{round_stays, round_stops}
-use Rattle.session_run.specs.Playing.{IsAt, PlayerView}
-use Rattle.std.specs.Prelude.{is_some}
+use Rattle.session_run.specs.Playing.{IsAt}
 use Rattle.session_run.proofs.player.Player.rounds.Goals as goal
 
 pub loop-round-preserved : goal.loop-round-preserved
@@ -16,7 +15,7 @@ returns-then-is_some g c = λ o first start same events at.
     let old : IsAt o t c.loop-round.self = c.loop-round.invariant o (turns o first nothing_played) same at in
     let new : IsAt o (round o t) c.round.new.self = c.in_ok-round.ensures o t same old in
     round_stops c.serial_laws.ensures.sum o first c.loop-round._round (round o t) c.round.new.self refl new
-    (ap (λ (v : PlayerView). is_some v.stop) (sym c.self-in-loop-round.view_is) ∙ sym c.is_some.ensures ∙ c.if-is_some.true)
+    (sym c.is_some.ensures ∙ c.if-is_some.true)
 
 pub returns-then-entries-before : goal.returns-then-entries-before
 returns-then-entries-before g c = λ o first start same events at.
@@ -25,11 +24,7 @@ returns-then-entries-before g c = λ o first start same events at.
     let new : IsAt o (round o t) c.round.new.self = c.in_ok-round.ensures o t same old in
     round_stays c.serial_laws.ensures.stays c.serial_laws.ensures.sum c.serial_laws.ensures.goes_on o first c.loop-round._round t (round o t)
     c.loop-round.self c.round.new.self start refl refl old new
-    (ap (λ (v : PlayerView). length v.log.entries) (sym c.self-in-loop-round.view_is)
-    ∙ ap length (sym c.entries.ensures.same)
-    ∙ c.if-entries-before.true
-    ∙ ap length c.entries-before.ensures.same
-    ∙ ap (λ (v : PlayerView). length v.log.entries) c.self.view_is)
+    (ap length (sym c.entries.ensures.same) ∙ c.if-entries-before.true ∙ ap length c.entries-before.ensures.same)
 
 pub returns : goal.returns
 returns g c = λ o first start same events at.

@@ -4,7 +4,7 @@ use Rattle.session_order.specs.Serial.{Played, turns}
 use Rattle.session_run.specs.Playing.{IsAt}
 use Rattle.session_run.proofs.player.Player.turns.Given as goal
 
-abbrev pub invariant-loop-caller : goal.invariant-loop-caller
-invariant-loop-caller g l =
-    (o : Setup) (t : Played) → o.programs ≡ l.programs → IsAt o t l.initial.self
-    → (now : Played) × IsAt o now l.self × (turns o (drop l.caller-index l.callers) now ≡ turns o l.callers t)
+abbrev pub invariant-loop-n : goal.invariant-loop-n
+invariant-loop-n g l =
+    (o : Setup) (t : Played) → o.programs ≡ l.callers → IsAt o t l.initial.self
+    → (now : Played) × IsAt o now l.self × (turns o (drop l.n-index l.first) now ≡ turns o l.first t)
