@@ -4,7 +4,7 @@ use Rattle.std.proofs.lemmas.List.FromFn.{map-range_with_len_more}
 use Rattle.std.proofs.lemmas.List.Elements.{All-cons, All-nil}
 use Rattle.std.specs.List.{All, range_with_len}
 use Rattle.std.specs.Prelude.{◌==◌, if◌then◌else◌}
-use Rattle.session_run.specs.Drill.{Draws, activate_item, below, colour_item, cursor_item, each, item, item_of, just, keys, print_item, script, wait_item}
+use Rattle.session_run.specs.Drill.{Draws, activate_item, below, colour_item, cursor_item, each, item, item_of, just, keys, opening_calls, print_item, script, wait_item}
 use Rattle.session_text.specs.ItemTexts.{is_item}
 use Rattle.session_text.specs.Sessions.{ArePrograms, IsKeysProgram, IsScriptProgram}
 use Rattle.session_text.specs.declared.program.Program.{Program}

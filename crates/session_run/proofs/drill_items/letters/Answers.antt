@@ -1,4 +1,4 @@
-use Rattle.std.proofs.Common.{◌≡◌, ◌+◌, ap, arith}
+use Rattle.std.proofs.Common.{◌≡◌, ◌+◌, [], ap, arith}
 use Rattle.session_run.proofs.Drilling.{all, begin, more}
 use Rattle.session_run.proofs.drill_items.letters.Goals as goal
 

@@ -1,4 +1,4 @@
-use Rattle.std.proofs.Common.{◌≡◌, Some, sym, ap, ◌∙◌}
+use Rattle.std.proofs.Common.{◌≡◌, Some, sym, ap, ◌∙◌, subst}
 use Rattle.session_run.proofs.Turns.{not_stopped, turn_skips}
 use Rattle.session_text.specs.Programs.{program_of}
 use Rattle.session_run.proofs.player.Player.turn.Goals as goal
