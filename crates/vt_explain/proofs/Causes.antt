@@ -2,7 +2,7 @@
 use Rattle.std.proofs.Common.{◌≡◌, inl, inr, ⊎_elim, ℕ, List, [], ◌∷◌, ◌++◌, length, map, Option, Some, None, refl, sym, ap, subst, ◌∙◌, append-nil}
 use Rattle.std.specs.Prelude.{IfSome, option_to_list, slice_get}
 use Rattle.std.proofs.lemmas.Option.{none-some}
-use Rattle.vt_explain.proofs.Places.{at_either, get_last, get_left}
+use Rattle.vt_explain.proofs.Places.{get_last, get_left}
 use Rattle.vt_explain.specs.Certificates.{AsksAt, IsCause, WasAsked}
 use Rattle.vt_explain.specs.Finding.{cause_of, hear_all, known_after}
 use Rattle.vt_explain.specs.Hops.{TimedHop, at_time, timed_hops}
@@ -17,6 +17,7 @@ use Rattle.vt_switch.specs.declared.cause.Cause.{Cause}
 use Rattle.vt_switch.specs.declared.cause.Cause.TheVariants as cause
 use Rattle.vt_switch.specs.declared.hop.Hop.{Hop}
 use Rattle.vt_switch.specs.declared.mark.Mark.{Mark}
+use Rattle.vt_world.proofs.Histories.{at_either}
 
 abbrev ask_in : ℕ → ℕ → Option LastAsk
 ask_in entry signal = Some (record { entry = entry; signal = signal })

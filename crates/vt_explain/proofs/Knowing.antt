@@ -1,7 +1,11 @@
 -- The items that are known after a history: one for each switch.
 use Rattle.std.proofs.Common.{◌≡◌, ◌≤◌, ⊎_elim, ℕ, ◌+◌, cond, List, [], ◌∷◌, ◌++◌, length, take, map, flat_map, Some, refl, sym, ap, subst, ◌∙◌, arith, append-nil, length-append}
 use Rattle.std.specs.Prelude.{◌==◌, count_by, slice_get}
-use Rattle.vt_explain.proofs.Places.{at_either, count_more, get_last, get_left, take_left, take_seam}
+use Rattle.std.proofs.Math.Seq.{take-append_seam}
+use Rattle.std.proofs.lemmas.List.{take-append-le}
+use Rattle.std.proofs.lemmas.List.Sums.{sum_by_push}
+use Rattle.std.proofs.lemmas.Option.{slice_get_within}
+use Rattle.vt_explain.proofs.Places.{get_last, get_left}
 use Rattle.vt_explain.specs.Finding.{hear_all, is_at, item_of, known_after}
 use Rattle.vt_explain.specs.Hops.{TimedHop, at_time, is_in, timed_hops}
 use Rattle.vt_explain.specs.declared.hop_why.HopWhy.{HopWhy}
@@ -10,6 +14,7 @@ use Rattle.vt_switch.specs.News.{News, Asking, Going, OneNewsIsTold, news}
 use Rattle.vt_switch.specs.declared.hop.Hop.{Hop}
 use Rattle.vt_switch.specs.declared.mark.Mark.{Mark}
 use Rattle.vt_switch.specs.declared.mark.Mark.TheVariants as mark
+use Rattle.vt_world.proofs.Histories.{at_either}
 
 -- the switches among some news
 abbrev pub going : News → List Hop
@@ -50,18 +55,19 @@ finds_one : (timed : List TimedHop) (items : List HopWhy) (h : TimedHop) → Fin
 finds_one timed items h finds = record {
   many = omega (arith, finds.many, length-append items (item timed h ∷ []), length-append timed (h ∷ []));
   counted = λ n.
-      count_more (is_at n) items (item timed h)
+      sum_by_push (λ w. cond (is_at n w) 1 0) items (item timed h)
       ∙ ap (λ count. count + cond (h.moment.entry == n) 1 0) (finds.counted n)
-      ∙ sym (count_more (is_in n) timed h);
+      ∙ sym (sum_by_push (λ g. cond (is_in n g) 1 0) timed h);
   each = λ k g is. ⊎_elim
       (λ old.
       get_left items (item timed h ∷ []) k (item (take k timed) g) (finds.each k g old)
-      ∙ ap (λ (before : List TimedHop). Some (item before g)) (sym (take_left timed h k g old)))
+      ∙ ap (λ (before : List TimedHop). Some (item before g))
+      (sym (take-append-le k timed (h ∷ []) (omega (arith, slice_get_within timed k g old)))))
       (λ new.
       let place : k ≡ length items = omega (arith, new.0, finds.many) in
       ap (λ n. slice_get (items ++ item timed h ∷ []) n) place
       ∙ get_last items (item timed h)
-      ∙ ap (λ (before : List TimedHop). Some (item before h)) (sym (take_seam timed h))
+      ∙ ap (λ (before : List TimedHop). Some (item before h)) (sym (take-append_seam timed (h ∷ [])))
       ∙ (λ i. Some (item (take (sym new.0 i) (timed ++ h ∷ [])) (new.1 i))))
       (at_either timed h k g is);
 }

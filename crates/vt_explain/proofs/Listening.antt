@@ -3,8 +3,8 @@ use Rattle.std.proofs.Common.{◌≡◌, ◌≢◌, ◌≤◌, ℕ, ◌+◌, con
 use Rattle.std.specs.Prelude.{count_by}
 use Rattle.std.proofs.lemmas.Bool.{ne_eqb}
 use Rattle.std.proofs.lemmas.List.{length_push}
+use Rattle.std.proofs.lemmas.List.Sums.{sum_by_push}
 use Rattle.vt_check.specs.Watching.{IsNextEntry}
-use Rattle.vt_explain.proofs.Places.{count_more}
 use Rattle.vt_explain.specs.Finding.{HasRead, Known, hear, hear_all, is_at, item_of, known_after}
 use Rattle.vt_events.specs.declared.entry.Entry.{Entry}
 use Rattle.vt_switch.specs.Acts.{SwitchAct}
@@ -52,7 +52,7 @@ none_else at j other (Asking ask ∷ told) k =
 none_else at j other (Going hop ∷ told) k =
     let n : ℕ = count_by (is_at at) k.items in
     none_else at j other told (hear at (Going hop) k)
-    ∙ count_more (is_at j) k.items (item_of at n hop k.last)
+    ∙ sum_by_push (λ w. cond (is_at j w) 1 0) k.items (item_of at n hop k.last)
     ∙ ap (λ b. count_by (is_at j) k.items + cond b 1 0) (ne_eqb at j other)
     ∙ (let none : count_by (is_at j) k.items + 0 ≡ count_by (is_at j) k.items = omega arith in none)
 

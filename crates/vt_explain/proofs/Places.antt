@@ -1,7 +1,6 @@
 -- Places of lists.
-use Rattle.std.proofs.Common.{◌≡◌, ◌<◌, ◌⊎◌, inl, inr, ℕ, zero, suc, ◌+◌, Bool, cond, List, [], ◌∷◌, ◌++◌, length, take, Some, refl, sym, ap, arith}
-use Rattle.std.specs.Prelude.{count_by, slice_get}
-use Rattle.std.proofs.lemmas.List.Sums.{sum_by_push}
+use Rattle.std.proofs.Common.{◌≡◌, ◌<◌, ℕ, zero, suc, List, [], ◌∷◌, ◌++◌, length, Some, refl, sym, arith}
+use Rattle.std.specs.Prelude.{slice_get}
 use Rattle.std.proofs.lemmas.Option.{none-some, same_Some}
 
 pub get_left : {A : Type 0} (xs ys : List A) (k : ℕ) (x : A) → slice_get xs k ≡ Some x
@@ -13,20 +12,6 @@ get_left (y ∷ xs) ys (suc k) x is = get_left xs ys k x is
 pub get_last : {A : Type 0} (xs : List A) (x : A) → slice_get (xs ++ x ∷ []) (length xs) ≡ Some x
 get_last [] x = refl
 get_last (y ∷ xs) x = get_last xs x
-
--- an element of a list with one more: an element of the list, or the last one
-pub at_either : {A : Type 0} (xs : List A) (x : A) (k : ℕ) (y : A)
-    → slice_get (xs ++ x ∷ []) k ≡ Some y
-    → (slice_get xs k ≡ Some y) ⊎ ((k ≡ length xs) × (x ≡ y))
-at_either [] x zero y is = inr (refl, same_Some x y is)
-at_either [] x (suc k) y is = absurd (none-some y is)
-at_either (z ∷ xs) x zero y is = inl is
-at_either (z ∷ xs) x (suc k) y is = later (at_either xs x k y is)
-  where
-    later : (slice_get xs k ≡ Some y) ⊎ ((k ≡ length xs) × (x ≡ y))
-        → (slice_get xs k ≡ Some y) ⊎ ((suc k ≡ suc (length xs)) × (x ≡ y))
-    later (inl old) = inl old
-    later (inr new) = inr (ap suc new.0, new.1)
 
 pub record HasAt {A : Type 0} (xs : List A) (k : ℕ) : Type 0 where
   pub element : A
@@ -50,17 +35,3 @@ same_lists (x ∷ xs) (y ∷ ys) many each =
     let rest : xs ≡ ys =
     same_lists xs ys (omega (arith, many)) (λ k z is. each (suc k) z is) in
     λ i. sym first i ∷ rest i
-
-pub count_more : {A : Type 0} (p : A → Bool) (xs : List A) (x : A)
-    → count_by p (xs ++ x ∷ []) ≡ count_by p xs + cond (p x) 1 0
-count_more p xs x = sum_by_push (λ y. cond (p y) 1 0) xs x
-
-pub take_left : {A : Type 0} (xs : List A) (x : A) (k : ℕ) (y : A) → slice_get xs k ≡ Some y
-    → take k (xs ++ x ∷ []) ≡ take k xs
-take_left [] x k y is = absurd (none-some y is)
-take_left (z ∷ xs) x zero y is = refl
-take_left (z ∷ xs) x (suc k) y is = ap (λ rest. z ∷ rest) (take_left xs x k y is)
-
-pub take_seam : {A : Type 0} (xs : List A) (x : A) → take (length xs) (xs ++ x ∷ []) ≡ xs
-take_seam [] x = refl
-take_seam (y ∷ xs) x = ap (λ rest. y ∷ rest) (take_seam xs x)

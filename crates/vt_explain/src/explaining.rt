@@ -15,7 +15,6 @@ use crate::comparing::compare;
 use crate::laws::{certificates_explain, one_acceptance};
 use crate::reader::Reader;
 use crate::{Explained, HopWhy, Judged};
-use session_order::session_laws;
 use session_text::Session;
 use std::alloc::Global;
 use vt_base::NoMemory;
@@ -37,7 +36,6 @@ pub fn explain(alloc: Global, s: &Session, j: &Journal) -> Result<Explained, NoM
     certificates_explain();
     acts_tell_one_thing();
     one_verdict();
-    session_laws(s);
     let mut reader = Reader::new(alloc);
     let verdict = watch(alloc, s, j, &mut reader)?;
     match verdict {

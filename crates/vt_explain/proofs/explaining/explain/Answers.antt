@@ -5,7 +5,6 @@ use Rattle.vt_check.specs.Verdicts.{Judges}
 use Rattle.vt_explain.proofs.Certified.{certificate_is, found_is}
 use Rattle.vt_explain.specs.Certificates.{IsCertificate}
 use Rattle.vt_explain.specs.Finding.{Known, is_at, known_after}
-use Rattle.vt_switch.specs.Law.{IsLawful}
 use Rattle.vt_switch.specs.Moments.{Moment}
 use Rattle.vt_world.specs.Laws.{moments}
 use Rattle.vt_explain.proofs.explaining.explain.Goals as goal
@@ -16,13 +15,6 @@ history c = moments (start_of c.args.s.now) c.args.j.now.entries
 found : (c : goal.After-into_items) → c.into_items.result.items ≡ (known_after (history c)).items
 found c =
     c.into_items.ensures ∙ ap (λ (k : Known). k.items) (c.in_ok-verdict.ensures.saw c.in-Legal.is).known_is
-
-lawful : (c : goal.After-into_items) → IsLawful (history c)
-lawful c =
-    let right =
-    (c.one_verdict.ensures.right (setup_of c.args.s.now) c.args.j.now.entries c.args.j.now.tail
-    c.in_ok-verdict.verdict c.in_ok-verdict.ensures.judges).0 c.in-Legal.is in
-    (c.session_laws.ensures.right c.args.j.now.entries c.args.j.now.tail right.legal right.follows right.ends).lawful
 
 pub watch-requires : goal.watch-requires
 watch-requires c = record {
@@ -44,7 +36,8 @@ returns-in-Legal-clause-verdict c = λ v is.
 pub returns-in-Legal-clause-cert : goal.returns-in-Legal-clause-cert
 returns-in-Legal-clause-cert c =
     subst (IsCertificate (history c)) (sym (found c))
-    (found_is c.acts_tell_one_thing.ensures.news c.acts_tell_one_thing.ensures.hop (history c) (lawful c))
+    (found_is c.acts_tell_one_thing.ensures.news c.acts_tell_one_thing.ensures.hop (history c)
+    (c.in_ok-verdict.ensures.right c.in-Legal.is).lawful)
 
 pub returns-in-Legal-clause-only : goal.returns-in-Legal-clause-only
 returns-in-Legal-clause-only c = λ other is.
