@@ -1,10 +1,9 @@
 -- Lists that a loop goes over, and the results of it, element by element.
-use Rattle.std.proofs.Common.{◌≡◌, ℕ, ◌+◌, ◌<◌, ◌≤◌, zero, suc, List, [], ◌∷◌, ◌++◌, Option, Some, None, drop, map, length, get_or, refl, sym, ap, ◌∙◌, append_assoc, add-one, drop-cons, arith}
+use Rattle.std.proofs.Common.{◌≡◌, ℕ, ◌+◌, ◌<◌, ◌≤◌, zero, suc, List, [], ◌∷◌, ◌++◌, drop, map, length, get_or, refl, sym, ap, ◌∙◌, append_assoc, add-one, drop-cons, arith}
 use Rattle.std.proofs.lemmas.List.{append-nil}
-use Rattle.std.specs.List.{cons_option, filter_map, flat_map}
-use Rattle.std.specs.Prelude.{option_to_list}
-use Rattle.example_watch.specs.Facts.{count_after, mark_fact, trace_facts}
-use Rattle.example_watch.specs.declared.fact.Fact.{Fact}
+use Rattle.std.specs.List.{flat_map}
+use Rattle.example_watch.specs.Facts.{count_after, mark_text, trace_text}
+use Rattle.example_watch.specs.declared.form.Form.{Form}
 use Rattle.vt_explain.specs.declared.hop_why.HopWhy.{HopWhy}
 use Rattle.vt_switch.specs.declared.mark.Mark.{Mark}
 
@@ -39,29 +38,16 @@ value_more f xs i x old new whole within is added so_far =
     piece_more old (f x ∷ []) (map f (drop (i + 1) xs)) (map f (drop i xs)) new whole added
     (ap (map f) (next_drop xs i x within is)) so_far
 
-in_front : {B : Type 0} (y : Option B) (ys : List B) → cons_option y ys ≡ option_to_list y ++ ys
-in_front None ys = refl
-in_front (Some y) ys = refl
-
--- the value of one more element, if it has one
-pub some_more : {A B : Type 0} (h : A → Option B) (xs : List A) (i : ℕ) (x : A) (old new whole : List B)
-    → i < length xs → x ≡ get_or xs i x → new ≡ old ++ option_to_list (h x) → old ++ filter_map h (drop i xs) ≡ whole
-    → new ++ filter_map h (drop (i + 1) xs) ≡ whole
-some_more h xs i x old new whole within is added so_far =
-    piece_more old (option_to_list (h x)) (filter_map h (drop (i + 1) xs)) (filter_map h (drop i xs)) new whole added
-    (ap (filter_map h) (next_drop xs i x within is) ∙ in_front (h x) (filter_map h (drop (i + 1) xs))) so_far
-
 -- the fact of one more mark of a trace
-pub mark_more : (caller : ℕ) (cert : List HopWhy) (count : ℕ) (marks : List Mark) (i : ℕ) (m : Mark)
-    (old new whole : List Fact)
-    → i < length marks → m ≡ get_or marks i m → new ≡ old ++ option_to_list (mark_fact caller cert count m)
-    → old ++ trace_facts caller cert count (drop i marks) ≡ whole
-    → new ++ trace_facts caller cert (count_after m count) (drop (i + 1) marks) ≡ whole
-mark_more caller cert count marks i m old new whole within is added so_far =
-    piece_more old (option_to_list (mark_fact caller cert count m))
-    (trace_facts caller cert (count_after m count) (drop (i + 1) marks))
-    (trace_facts caller cert count (drop i marks)) new whole added
-    (ap (trace_facts caller cert count) (next_drop marks i m within is)) so_far
+pub mark_more : (f : Form) (caller : ℕ) (cert : List HopWhy) (count : ℕ) (marks : List Mark) (i : ℕ) (m : Mark)
+    (old new whole : List ℕ)
+    → i < length marks → m ≡ get_or marks i m → new ≡ old ++ mark_text f caller cert count m
+    → old ++ trace_text f caller cert count (drop i marks) ≡ whole
+    → new ++ trace_text f caller cert (count_after m count) (drop (i + 1) marks) ≡ whole
+mark_more f caller cert count marks i m old new whole within is added so_far =
+    piece_more old (mark_text f caller cert count m) (trace_text f caller cert (count_after m count) (drop (i + 1) marks))
+    (trace_text f caller cert count (drop i marks)) new whole added
+    (ap (trace_text f caller cert count) (next_drop marks i m within is)) so_far
 
 -- past the end no element is left
 pub past_end : {A : Type 0} (xs : List A) (i : ℕ) → length xs ≤ i → drop i xs ≡ []
@@ -70,8 +56,8 @@ past_end [] (suc i) over = refl
 past_end (x ∷ xs) zero over = absurd (omega (arith, over))
 past_end (x ∷ xs) (suc i) over = past_end xs i (omega (arith, over))
 
--- at the end all values are there
-pub all_some : {A B : Type 0} (h : A → Option B) (xs : List A) (i : ℕ) (made whole : List B) → length xs ≤ i
-    → made ++ filter_map h (drop i xs) ≡ whole → made ≡ whole
-all_some h xs i made whole over so_far =
-    sym (append-nil made) ∙ ap (λ (rest : List _). made ++ filter_map h rest) (sym (past_end xs i over)) ∙ so_far
+-- at the end all texts are there
+pub all_texts : {A : Type 0} (f : A → List ℕ) (xs : List A) (i : ℕ) (made whole : List ℕ) → length xs ≤ i
+    → made ++ flat_map f (drop i xs) ≡ whole → made ≡ whole
+all_texts f xs i made whole over so_far =
+    sym (append-nil made) ∙ ap (λ (rest : List _). made ++ flat_map f rest) (sym (past_end xs i over)) ∙ so_far

@@ -1,4 +1,2 @@
-pub mod EntryLines
 pub mod Going
 pub mod Histories
-pub mod Pieces

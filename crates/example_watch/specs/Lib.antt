@@ -1,9 +1,7 @@
-pub mod FactText
+pub mod Entries
 pub mod Facts
-pub mod Json
-pub mod Lines
 pub mod Sights
-pub mod StateText
+pub mod States
 pub mod Texts
 pub mod Watch
 pub mod Words

@@ -1,74 +1,84 @@
-use crate::adding::{add, add_number};
+use crate::adding::text_of;
+use crate::form::Form;
+use crate::piece::Piece;
 use std::alloc::Global;
 use vt_base::{Bytes, NoMemory};
 
-/// How the program ends.
+/// Why the program ends without its output.
 #[derive(Clone, Copy, Drop)]
-pub(crate) enum Ending {
-    Fine,
+pub(crate) enum Failure {
     Usage,
     ReadFault,
     WriteFault,
     NoMemory,
+    TooLong,
     /// The session or the journal has a fault: its code and its place.
     Refused { code: u16, a: u32, b: u32 },
-    TooLong,
     /// The journal isn't a legal one of the session: the first entry that fails, and the number of the reason.
     Illegal { index: u32, why: u8 },
 }
 
-impl Ending {
+impl Failure {
     /// The exit status (docs/codes.md).
-    pub(crate) fn number(self) -> u8 {
-        match self {
-            Ending::Fine => 0,
-            Ending::Usage => 1,
-            Ending::ReadFault => 2,
-            Ending::WriteFault => 3,
-            Ending::NoMemory => 4,
-            Ending::Refused { .. } => 5,
-            Ending::TooLong => 6,
-            Ending::Illegal { .. } => 8,
-        }
+    pub(crate) fn status(self) -> u8 {
+        let (status, _) = self.told();
+        status
     }
 
     /// The line on standard error.
     pub(crate) fn line(self, alloc: Global) -> Result<Bytes, NoMemory> {
-        let mut line = Bytes::new(alloc);
+        let (_, words) = self.told();
         match self {
-            Ending::Fine => {}
-            Ending::Usage => add(alloc, &mut line, b"watch: usage: watch [json]\n")?,
-            Ending::ReadFault => add(alloc, &mut line, b"watch: read failed\n")?,
-            Ending::WriteFault => add(alloc, &mut line, b"watch: write failed\n")?,
-            Ending::NoMemory => add(alloc, &mut line, b"watch: no memory\n")?,
-            Ending::Refused { code, a, b } => add_refused(alloc, &mut line, code, a, b)?,
-            Ending::TooLong => add(alloc, &mut line, b"watch: input too long\n")?,
-            Ending::Illegal { index, why } => add_illegal(alloc, &mut line, index, why)?,
+            Failure::Refused { code, a, b } => text_of(
+                alloc,
+                Form::Lines,
+                &[
+                    Piece::Text(words),
+                    Piece::Text(b" "),
+                    Piece::Number(u32::from(code)),
+                    Piece::Text(b" at "),
+                    Piece::Number(a),
+                    Piece::Text(b":"),
+                    Piece::Number(b),
+                    Piece::Text(b"\n"),
+                ],
+            ),
+            Failure::Illegal { index, why } => text_of(
+                alloc,
+                Form::Lines,
+                &[
+                    Piece::Text(words),
+                    Piece::Text(b" "),
+                    Piece::Number(index),
+                    Piece::Text(b" "),
+                    Piece::Number(u32::from(why)),
+                    Piece::Text(b"\n"),
+                ],
+            ),
+            _ => text_of(
+                alloc,
+                Form::Lines,
+                &[Piece::Text(words), Piece::Text(b"\n")],
+            ),
         }
-        Ok(line)
+    }
+
+    // The exit status, and the words of the line before its numbers.
+    fn told(self) -> (u8, &'static [u8]) {
+        match self {
+            Failure::Usage => (1, b"watch: usage: watch [json]"),
+            Failure::ReadFault => (2, b"watch: read failed"),
+            Failure::WriteFault => (3, b"watch: write failed"),
+            Failure::NoMemory => (4, b"watch: no memory"),
+            Failure::Refused { .. } => (5, b"watch: refused"),
+            Failure::TooLong => (6, b"watch: input too long"),
+            Failure::Illegal { .. } => (8, b"watch: illegal"),
+        }
     }
 }
 
-impl From<NoMemory> for Ending {
-    fn from(_: NoMemory) -> Ending {
-        Ending::NoMemory
+impl From<NoMemory> for Failure {
+    fn from(_: NoMemory) -> Failure {
+        Failure::NoMemory
     }
-}
-
-fn add_refused(alloc: Global, line: &mut Bytes, code: u16, a: u32, b: u32) -> Result<(), NoMemory> {
-    add(alloc, line, b"watch: refused ")?;
-    add_number(alloc, line, u64::from(code))?;
-    add(alloc, line, b" at ")?;
-    add_number(alloc, line, u64::from(a))?;
-    add(alloc, line, b":")?;
-    add_number(alloc, line, u64::from(b))?;
-    add(alloc, line, b"\n")
-}
-
-fn add_illegal(alloc: Global, line: &mut Bytes, index: u32, why: u8) -> Result<(), NoMemory> {
-    add(alloc, line, b"watch: illegal ")?;
-    add_number(alloc, line, u64::from(index))?;
-    add(alloc, line, b" ")?;
-    add_number(alloc, line, u64::from(why))?;
-    add(alloc, line, b"\n")
 }

@@ -1,16 +1,199 @@
-//! The facts of an entry.
-ghost use Rattle.std.specs.Prelude.{◌≡◌, ◌++◌, IfOk, OnOk, option_map, option_to_list, slice_get, slice_index_or};
-ghost use Rattle.example_watch.specs.Facts.{count_after, mark_fact, trace_facts, wait_end, wait_fact, wait_facts, waits_of};
-ghost use Rattle.example_watch.specs.declared.fact.Fact.TheVariants as fact_is;
+//! The facts of an entry: a line for each, or an object of JSON with a comma before it.
+ghost use Rattle.std.specs.Prelude.{◌≡◌, ◌++◌, IfOk, OnOk, slice_get, slice_index_or};
+ghost use Rattle.example_watch.specs.Facts.{ask_text, cause_text, count_after, ended_text, hop_text, mark_text, switch_text, trace_text, wait_text, wait_text_at, waits_of, waits_text};
 ghost use Rattle.vt_procs.specs.declared.waiting.Waiting.TheVariants.{Nothing};
 
-use crate::fact::Fact;
-use crate::wait_end::WaitEnd;
+use crate::adding::add_pieces;
+use crate::form::Form;
+use crate::piece::Piece;
 use std::alloc::Global;
-use vt_base::{CallerNo, NoMemory};
-use vt_explain::HopWhy;
+use vt_base::{Bytes, CallerNo, NoMemory, Signal};
+use vt_explain::{HopCause, HopWhy};
 use vt_procs::Waiting;
 use vt_world::{Mark, World};
+
+/// The facts of an entry's trace, if the history had so many switches before it.
+pub(crate) fn trace_text(
+    alloc: Global,
+    form: Form,
+    caller: CallerNo,
+    cert: &[HopWhy],
+    switches: u64,
+    marks: &[Mark],
+) -> Result<Bytes, NoMemory>
+    ensures { IfOk result (λ text. text.bytes ≡ trace_text form caller cert.now switches marks.now) }
+{
+    let mut text = Bytes::new(alloc);
+    let mut count = switches;
+    for mark in marks {
+        add_mark(alloc, &mut text, form, caller, cert, count, mark)?;
+        count = count_after(mark, count);
+    }
+    Ok(text)
+}
+
+fn count_after(mark: &Mark, count: u64) -> u64
+    ensures { result ≡ count_after mark.now count }
+{
+    match mark {
+        Mark::Hopped(_) => count.saturating_add(1),
+        _ => count,
+    }
+}
+
+// Adds the fact of a mark of the trace, after so many switches of the history.
+fn add_mark(
+    alloc: Global,
+    text: &mut Bytes,
+    form: Form,
+    caller: CallerNo,
+    cert: &[HopWhy],
+    count: u64,
+    mark: &Mark,
+) -> Result<(), NoMemory>
+    ensures { OnOk result (text.new.bytes ≡ text.old.bytes ++ mark_text form caller cert.now count mark.now) }
+{
+    match mark {
+        Mark::Asked(console) => add_pieces(
+            alloc,
+            text,
+            form,
+            &[
+                Piece::ByForm(b"    ", b",{\"what\":\"request\",\"caller\":\""),
+                Piece::Caller(caller),
+                Piece::ByForm(b" requests console ", b"\",\"console\":"),
+                Piece::Console(*console),
+                Piece::ByForm(b"\n", b"}"),
+            ],
+        ),
+        Mark::Raised { to, signal } => add_pieces(
+            alloc,
+            text,
+            form,
+            &[
+                Piece::ByForm(b"    signal ", b",{\"what\":\"signal\",\"signal\":"),
+                Piece::Signal(*signal),
+                Piece::ByForm(b" to ", b",\"to\":\""),
+                Piece::Caller(*to),
+                Piece::ByForm(b"\n", b"\"}"),
+            ],
+        ),
+        Mark::Hopped(_) => add_hop(alloc, text, form, cert, count),
+        Mark::Ended(p) => add_pieces(
+            alloc,
+            text,
+            form,
+            &[
+                Piece::ByForm(b"    ", b",{\"what\":\"end\",\"caller\":\""),
+                Piece::Caller(*p),
+                Piece::ByForm(b" ends\n", b"\"}"),
+            ],
+        ),
+    }
+}
+
+// Adds the switch of this number, counted from 0.
+fn add_hop(
+    alloc: Global,
+    text: &mut Bytes,
+    form: Form,
+    cert: &[HopWhy],
+    count: u64,
+) -> Result<(), NoMemory>
+    ensures { OnOk result (text.new.bytes ≡ text.old.bytes ++ hop_text form (slice_get cert.now count)) }
+{
+    match cert.get(count as usize) {
+        None => Ok(()),
+        Some(item) => add_switch(alloc, text, form, item),
+    }
+}
+
+#[tactic(auto, unfolding(crate::specs::Facts::switch_text))]
+fn add_switch(alloc: Global, text: &mut Bytes, form: Form, item: &HopWhy) -> Result<(), NoMemory>
+    ensures { OnOk result (text.new.bytes ≡ text.old.bytes ++ switch_text form item.now) }
+{
+    add_pieces(
+        alloc,
+        text,
+        form,
+        &[
+            Piece::ByForm(b"    switch from ", b",{\"what\":\"switch\",\"from\":"),
+            Piece::Console(item.from),
+            Piece::ByForm(b" to ", b",\"to\":"),
+            Piece::Console(item.to),
+            Piece::ByForm(b": ", b",\"cause\":\""),
+        ],
+    )?;
+    add_cause(alloc, text, form, &item.cause)?;
+    Ok(())
+}
+
+#[tactic(auto, unfolding(crate::specs::Facts::cause_text))]
+fn add_cause(alloc: Global, text: &mut Bytes, form: Form, cause: &HopCause) -> Result<(), NoMemory>
+    ensures { OnOk result (text.new.bytes ≡ text.old.bytes ++ cause_text form cause.now) }
+{
+    match cause {
+        HopCause::Free => add_pieces(alloc, text, form, &[Piece::ByForm(b"free\n", b"free\"}")]),
+        HopCause::Released {
+            owner,
+            asked,
+            signal,
+        } => add_ask(
+            alloc,
+            text,
+            form,
+            b"released by ",
+            b"released\",\"owner\":\"",
+            *owner,
+            *asked,
+            *signal,
+        ),
+        HopCause::Died {
+            owner,
+            asked,
+            signal,
+        } => add_ask(
+            alloc,
+            text,
+            form,
+            b"died with ",
+            b"died\",\"owner\":\"",
+            *owner,
+            *asked,
+            *signal,
+        ),
+    }
+}
+
+#[tactic(auto, unfolding(crate::specs::Facts::ask_text))]
+fn add_ask(
+    alloc: Global,
+    text: &mut Bytes,
+    form: Form,
+    in_lines: &[u8],
+    in_json: &[u8],
+    owner: CallerNo,
+    asked: u32,
+    signal: Signal,
+) -> Result<(), NoMemory>
+    ensures { OnOk result (text.new.bytes
+        ≡ text.old.bytes ++ ask_text form in_lines.now in_json.now owner asked signal) }
+{
+    add_pieces(
+        alloc,
+        text,
+        form,
+        &[
+            Piece::ByForm(in_lines, in_json),
+            Piece::Caller(owner),
+            Piece::ByForm(b", asked in entry ", b"\",\"asked\":"),
+            Piece::Number(asked),
+            Piece::ByForm(b" by signal ", b",\"signal\":"),
+            Piece::Signal(signal),
+            Piece::ByForm(b"\n", b"}"),
+        ],
+    )
+}
 
 /// The state of each caller's wait.
 pub(crate) fn waits_of(alloc: Global, world: &World) -> Result<Vec<Waiting>, NoMemory>
@@ -25,91 +208,44 @@ pub(crate) fn waits_of(alloc: Global, world: &World) -> Result<Vec<Waiting>, NoM
     Ok(waits)
 }
 
-/// The facts of an entry's trace, if the history had so many switches before it.
-pub(crate) fn trace_facts(
-    alloc: Global,
-    caller: CallerNo,
-    cert: &[HopWhy],
-    switches: u64,
-    marks: &[Mark],
-) -> Result<Vec<Fact>, NoMemory>
-    ensures { IfOk result (λ facts. facts.items ≡ trace_facts caller cert.now switches marks.now) }
-{
-    let mut facts = Vec::new(alloc);
-    let mut count = switches;
-    for mark in marks {
-        push_some(&mut facts, mark_fact(caller, cert, count, mark))?;
-        count = count_after(mark, count);
-    }
-    Ok(facts)
-}
-
-// The fact of a mark of the trace, after so many switches of the history.
-fn mark_fact(caller: CallerNo, cert: &[HopWhy], count: u64, mark: &Mark) -> Option<Fact>
-    ensures { result ≡ mark_fact caller cert.now count mark.now }
-{
-    match mark {
-        Mark::Asked(console) => Some(Fact::Request {
-            caller,
-            console: *console,
-        }),
-        Mark::Raised { to, signal } => Some(Fact::Signal {
-            signal: *signal,
-            to: *to,
-        }),
-        Mark::Hopped(_) => switch_fact(cert, count),
-        Mark::Ended(p) => Some(Fact::End(*p)),
-    }
-}
-
-// The switch of this number, counted from 0.
-fn switch_fact(cert: &[HopWhy], count: u64) -> Option<Fact>
-    ensures { result ≡ option_map fact_is.Switch (slice_get cert.now count) }
-{
-    let item = cert.get(count as usize)?;
-    Some(Fact::Switch(*item))
-}
-
-fn count_after(mark: &Mark, count: u64) -> u64
-    ensures { result ≡ count_after mark.now count }
-{
-    match mark {
-        Mark::Hopped(_) => count.saturating_add(1),
-        _ => count,
-    }
-}
-
 /// Adds the waits that ended, by rising callers.
-pub(crate) fn add_wait_facts(
-    facts: &mut Vec<Fact>,
+#[tactic(auto, unfolding(crate::specs::Facts::waits_text))]
+pub(crate) fn add_waits(
+    alloc: Global,
+    text: &mut Bytes,
+    form: Form,
     before: &[Waiting],
     after: &World,
 ) -> Result<(), NoMemory>
-    ensures { OnOk result (facts.new.items ≡ facts.old.items ++ wait_facts before.now after.now) }
+    ensures { OnOk result (text.new.bytes ≡ text.old.bytes ++ waits_text form before.now after.now) }
 {
     let callers = CallerNo::all();
     let all = callers.as_slice();
     for p in all {
-        push_some(facts, wait_fact(before, after, *p))?;
+        add_wait_at(alloc, text, form, before, after, *p)?;
     }
     Ok(())
 }
 
-// Adds the fact, if there is one.
-fn push_some(facts: &mut Vec<Fact>, fact: Option<Fact>) -> Result<(), NoMemory>
-    ensures { OnOk result (facts.new.items ≡ facts.old.items ++ option_to_list fact) }
+fn add_wait_at(
+    alloc: Global,
+    text: &mut Bytes,
+    form: Form,
+    before: &[Waiting],
+    after: &World,
+    p: CallerNo,
+) -> Result<(), NoMemory>
+    ensures { OnOk result (text.new.bytes ≡ text.old.bytes ++ wait_text_at form before.now after.now p) }
 {
-    if let Some(fact) = fact {
-        facts.extend_from_slice(&[fact])?;
-    }
+    add_wait(
+        alloc,
+        text,
+        form,
+        p,
+        &waiting_at(before, p),
+        &after.wait_of(p),
+    )?;
     Ok(())
-}
-
-fn wait_fact(before: &[Waiting], after: &World, p: CallerNo) -> Option<Fact>
-    ensures { result ≡ wait_fact before.now after.now p }
-{
-    let how = wait_end(&waiting_at(before, p), &after.wait_of(p))?;
-    Some(Fact::Wait { caller: p, how })
 }
 
 fn waiting_at(waits: &[Waiting], p: CallerNo) -> Waiting
@@ -123,16 +259,47 @@ fn waiting_at(waits: &[Waiting], p: CallerNo) -> Waiting
     }
 }
 
-// How a wait ended, from its state before and after the entry.
-fn wait_end(before: &Waiting, after: &Waiting) -> Option<WaitEnd>
-    ensures { result ≡ wait_end before.now after.now }
+// Adds the wait, if it ended between these states.
+fn add_wait(
+    alloc: Global,
+    text: &mut Bytes,
+    form: Form,
+    p: CallerNo,
+    before: &Waiting,
+    after: &Waiting,
+) -> Result<(), NoMemory>
+    ensures { OnOk result (text.new.bytes ≡ text.old.bytes ++ wait_text form p before.now after.now) }
 {
     match (before, after) {
-        (Waiting::Nothing, Waiting::Done) => Some(WaitEnd::Done),
-        (Waiting::Nothing, Waiting::Broken) => Some(WaitEnd::Interrupted),
-        (Waiting::Open(_), Waiting::Done) => Some(WaitEnd::Done),
-        (Waiting::Open(_), Waiting::Broken) => Some(WaitEnd::Interrupted),
-        (Waiting::Open(_), Waiting::Nothing) => Some(WaitEnd::Gone),
-        _ => None,
+        (Waiting::Nothing, Waiting::Done) => add_ended(alloc, text, form, p, b"ok"),
+        (Waiting::Nothing, Waiting::Broken) => add_ended(alloc, text, form, p, b"EINTR"),
+        (Waiting::Open(_), Waiting::Done) => add_ended(alloc, text, form, p, b"ok"),
+        (Waiting::Open(_), Waiting::Broken) => add_ended(alloc, text, form, p, b"EINTR"),
+        (Waiting::Open(_), Waiting::Nothing) => add_ended(alloc, text, form, p, b"gone"),
+        _ => Ok(()),
     }
+}
+
+#[tactic(auto, unfolding(crate::specs::Facts::ended_text))]
+fn add_ended(
+    alloc: Global,
+    text: &mut Bytes,
+    form: Form,
+    p: CallerNo,
+    how: &[u8],
+) -> Result<(), NoMemory>
+    ensures { OnOk result (text.new.bytes ≡ text.old.bytes ++ ended_text form p how.now) }
+{
+    add_pieces(
+        alloc,
+        text,
+        form,
+        &[
+            Piece::ByForm(b"    wait of ", b",{\"what\":\"wait\",\"caller\":\""),
+            Piece::Caller(p),
+            Piece::ByForm(b": ", b"\",\"how\":\""),
+            Piece::Text(how),
+            Piece::ByForm(b"\n", b"\"}"),
+        ],
+    )
 }

@@ -1,5 +1,5 @@
 //! The input: a session, and a journal after it or none.
-use crate::ending::Ending;
+use crate::ending::Failure;
 use crate::form::Form;
 use crate::watched::Watched;
 use crate::watcher::watch_text;
@@ -10,7 +10,7 @@ use vt_base::{Bytes, NoMemory};
 use vt_journal::{JError, Journal, parse, print, version_of};
 
 /// The text for the input.
-pub(crate) fn text_for(alloc: Global, form: Form, input: &[u8]) -> Result<Bytes, Ending> {
+pub(crate) fn text_for(alloc: Global, form: Form, input: &[u8]) -> Result<Bytes, Failure> {
     let (text, after) = cut(input);
     let session = session_of(alloc, text)?;
     let journal = if after.is_empty() {
@@ -20,7 +20,7 @@ pub(crate) fn text_for(alloc: Global, form: Form, input: &[u8]) -> Result<Bytes,
     };
     match watch_text(alloc, form, &session, &journal)? {
         Watched::Text(text) => Ok(text),
-        Watched::Illegal { index, why } => Err(Ending::Illegal { index, why }),
+        Watched::Illegal { index, why } => Err(Failure::Illegal { index, why }),
     }
 }
 
@@ -39,32 +39,32 @@ fn begins_line(text: &[u8]) -> bool {
     text.is_empty() || text.ends_with(b"\n".as_slice())
 }
 
-fn session_of(alloc: Global, text: &[u8]) -> Result<Session, Ending> {
+fn session_of(alloc: Global, text: &[u8]) -> Result<Session, Failure> {
     match read(alloc, text) {
         Ok(session) => Ok(session),
-        Err(SError::Fault(fault)) => Err(Ending::Refused {
+        Err(SError::Fault(fault)) => Err(Failure::Refused {
             code: fault.kind,
             a: fault.part,
             b: fault.item,
         }),
-        Err(SError::NoMemory) => Err(Ending::NoMemory),
+        Err(SError::NoMemory) => Err(Failure::NoMemory),
     }
 }
 
-fn parsed(alloc: Global, text: &[u8]) -> Result<Journal, Ending> {
+fn parsed(alloc: Global, text: &[u8]) -> Result<Journal, Failure> {
     match parse(alloc, text) {
         Ok(journal) => Ok(journal),
-        Err(JError::Fault(fault)) => Err(Ending::Refused {
+        Err(JError::Fault(fault)) => Err(Failure::Refused {
             code: fault.kind,
             a: fault.line,
             b: if fault.line == 0 { 0 } else { 1 },
         }),
-        Err(JError::NoMemory) => Err(Ending::NoMemory),
+        Err(JError::NoMemory) => Err(Failure::NoMemory),
     }
 }
 
 // The journal of the session's play.
-fn played(alloc: Global, session: &Session) -> Result<Journal, Ending> {
+fn played(alloc: Global, session: &Session) -> Result<Journal, Failure> {
     let text = journal_text(alloc, session)?;
     parsed(alloc, text.as_slice())
 }

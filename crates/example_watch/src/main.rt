@@ -8,24 +8,18 @@
 
 mod adding;
 mod ending;
-mod fact;
-mod fact_text;
+mod entries;
 mod facts;
 mod following;
 mod form;
 mod input;
-mod json;
-mod lines;
-mod owner;
-mod state_text;
+mod piece;
 mod states;
-mod wait_end;
-mod waiter;
 mod watched;
 mod watcher;
 mod words;
 
-use ending::Ending;
+use ending::Failure;
 use form::Form;
 use input::text_for;
 use std::alloc::Global;
@@ -39,32 +33,37 @@ use words::form_of_words;
 const INPUT_LIMIT: usize = 16_777_216;
 
 fn main(rt: HostRuntime) -> ExitCode {
-    let alloc = rt.alloc();
-    let ending = match form_of_words(&rt) {
-        Some(form) => match output(&rt, alloc, form) {
-            Ok(text) => match io::writer(&rt).write_all(text.as_slice()) {
-                Ok(()) => Ending::Fine,
-                Err(_) => Ending::WriteFault,
-            },
-            Err(ending) => ending,
-        },
-        None => Ending::Usage,
-    };
-    if let Ok(line) = ending.line(alloc) {
-        // (if standard error takes no line, the status is all that there is)
-        let _ = rt.stderr().write_all(line.as_slice());
+    match watch(&rt) {
+        Ok(()) => ExitCode::from(0),
+        Err(failure) => {
+            if let Ok(line) = failure.line(rt.alloc()) {
+                // (if standard error takes no line, the status is all that there is)
+                let _ = rt.stderr().write_all(line.as_slice());
+            }
+            ExitCode::from(failure.status())
+        }
     }
-    ExitCode::from(ending.number())
+}
+
+fn watch(rt: &HostRuntime) -> Result<(), Failure> {
+    let Some(form) = form_of_words(rt) else {
+        return Err(Failure::Usage);
+    };
+    let text = output(rt, rt.alloc(), form)?;
+    match io::writer(rt).write_all(text.as_slice()) {
+        Ok(()) => Ok(()),
+        Err(_) => Err(Failure::WriteFault),
+    }
 }
 
 // The text for the input.
-fn output(rt: &HostRuntime, alloc: Global, form: Form) -> Result<Bytes, Ending> {
+fn output(rt: &HostRuntime, alloc: Global, form: Form) -> Result<Bytes, Failure> {
     let mut input = Vec::new(alloc);
     if rt.reader().read_to_end(&mut input).is_err() {
-        return Err(Ending::ReadFault);
+        return Err(Failure::ReadFault);
     }
     if INPUT_LIMIT < input.len() {
-        return Err(Ending::TooLong);
+        return Err(Failure::TooLong);
     }
     text_for(alloc, form, input.as_slice())
 }

@@ -7,10 +7,10 @@ ghost use Rattle.session_order.specs.Sessions.{setup_of, start_of};
 ghost use Rattle.vt_check.specs.Verdicts.{Judges};
 
 use crate::adding::add;
+use crate::entries::add_end;
 use crate::following::Following;
 use crate::form::Form;
-use crate::json::add_end;
-use crate::state_text::state_text;
+use crate::states::state_text;
 use crate::watched::Watched;
 use session_order::start_of;
 use session_run::{Run, final_text};
@@ -60,7 +60,7 @@ fn history_text(
     for i in 0..entries.len() {
         following.follow(alloc, form, cert, i as u32, &entries[i], &mut text)?;
     }
-    add_end_text(alloc, form, &mut text, entries.len(), following)?;
+    add_end_text(alloc, form, &mut text, entries.len() as u32, following)?;
     Ok(text)
 }
 
@@ -83,7 +83,7 @@ fn add_end_text(
     alloc: Global,
     form: Form,
     text: &mut Bytes,
-    entries: usize,
+    entries: u32,
     following: Following,
 ) -> Result<(), NoMemory>
     ensures { OnOk result (text.new.bytes ≡ text.old.bytes ++ end_text form entries following.world) }
@@ -93,7 +93,7 @@ fn add_end_text(
         Form::Lines => Ok(()),
         Form::Json => {
             let last = last_text(alloc, world)?;
-            add_end(alloc, text, entries as u64, last.as_slice())
+            add_end(alloc, text, entries, last.as_slice())
         }
     }
 }
