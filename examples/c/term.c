@@ -229,7 +229,7 @@ static long now_ms(void)
     return now.tv_sec * 1000 + now.tv_nsec / 1000000;
 }
 
-/* Reads the signals that came. The status that the command or a signal ended with, or -1. */
+/* Reads the signals that came. The status of the signal that ends the terminal, else of the command, or -1. */
 static int take_signals(bool *is_whole)
 {
     struct signalfd_siginfo one;
@@ -237,7 +237,7 @@ static int take_signals(bool *is_whole)
     while (read(signals, &one, sizeof one) == sizeof one) {
         switch (one.ssi_signo) {
         case SIGCHLD:
-            if (waitpid(child, &ended, WNOHANG) == child)
+            if (waitpid(child, &ended, WNOHANG) == child && status < 0)
                 status = WIFEXITED(ended) ? WEXITSTATUS(ended) : 128 + WTERMSIG(ended);
             break;
         case SIGWINCH:
