@@ -1,13 +1,15 @@
 #!/usr/bin/env python3
-"""Runs the gate's proofs and edits, and prints what each crate costs in processor time.
+"""Runs the gate, and prints what each crate costs in processor time.
 
 usage: gate.py [--log FILE] [COMMAND ..]
 
-COMMAND is `rt ci` (default), or `rt ci NAME..`. Its output goes to FILE, or to standard output. Every second the
-processor time of each of its provers is read from /proc; what a prover took is known to a second. The table has a row
-for each crate: the seconds of one processor for its proof, for the proof of its tests and for its must-fail edits, the
-largest first. The last line has the sums, the time of all else (programs, tests, linking), and the time by the clock.
-Crates that an earlier run on this machine proved are not proved again: run it on a new machine, or with `--anew`.
+COMMAND is `.ci/run` (default), or another one, such as `rt ci`. Its output goes to FILE, or to standard output. Every
+second the processor time of each of its provers is read from /proc; what a prover took is known to a second. The table
+has a row for each crate: the seconds of one processor for its proof, for the proof of its tests and for its wrong
+bodies (those of must-fail/ and of wrong/), the largest first. The last line has the sums, the time of all else
+(programs, tests, linking, checks), and the time by the clock. What an earlier run on this machine kept is not done
+again: with a toolchain that keeps what `rt ci` passed run it on a new machine, and set XDG_CACHE_HOME to an empty
+folder, in which tools/check_wrong_bodies.py keeps what passed.
 
 The status is that of the command; 2 if it can't be started or the words are others.
 """
@@ -41,12 +43,12 @@ def processes():
 
 
 def work_of(words, place):
-    """The crate and the kind of work of a prover's words; none for another program. `rt` tries an edit in a folder of
-    its own, whose name begins with "rt-edit-"."""
+    """The crate and the kind of work of a prover's words; none for another program. Wrong bodies are tried in folders
+    of their own: those of `rt` begin with "rt-edit-", those of tools/check_wrong_bodies.py with "wrong-bodies-"."""
     if not words or pathlib.Path(words[0]).name != "rattle" or "--crate-name" not in words[:-1]:
         return None
     crate = words[words.index("--crate-name") + 1]
-    if "rt-edit-" in place:
+    if "rt-edit-" in place or "wrong-bodies-" in place:
         return crate, "edits"
     return crate, "tests" if "--test" in words else "proof"
 
@@ -95,7 +97,7 @@ def main():
     parser.add_argument("--log")
     parser.add_argument("command", nargs=argparse.REMAINDER)
     given = parser.parse_args()
-    command = given.command or ["rt", "ci"]
+    command = given.command or [".ci/run"]
     load = os.getloadavg()[0]
     date = datetime.date.today().isoformat()
     print(f"{date}, {os.cpu_count()} processors, load {load:.1f}: {' '.join(command)}", flush=True)

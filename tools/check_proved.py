@@ -9,9 +9,9 @@ name; of `Type::output` it is the text that `Display` promises for the type, and
 with names in parentheses that it defines. A crate has one section in all pages.
 
 The table of docs/proofs/wrong-bodies.md has a row for each of the named wrong bodies, whose second column names edits,
-as CRATE/must-fail/NAME.edit, or tests: a file of a crate of tests with the test's name in parentheses, or `cases` with
-that of a case. Each has to be there; and every edit of every crate changes files of its src/ alone, since one of a
-definition or a proof shows nothing.
+as CRATE/must-fail/NAME.edit or CRATE/wrong/NAME.edit, or tests: a file of a crate of tests with the test's name in
+parentheses, or `cases` with that of a case. Each has to be there; and every edit of every crate changes files of its
+src/ alone, since one of a definition or a proof shows nothing.
 
 docs/library/crates.md names each crate of crates.txt in the first column of a table, once.
 Prints a line for each fault, and ends with status 1 if there is one.
@@ -151,7 +151,7 @@ def section_faults(pages):
 
 def refusal_faults(cell):
     """What is wrong with the edits and tests that a row of wrong bodies names."""
-    edits = re.findall(r"`(\w+/must-fail/\w+\.edit)`", cell)
+    edits = re.findall(r"`(\w+/(?:must-fail|wrong)/\w+\.edit)`", cell)
     tests = re.findall(r"`(\w+(?:/src/[\w/]+\.rt)?)` \(`([^`]+)`\)", cell)
     if not edits and not tests:
         yield f"no edit and no test: {cell}"
@@ -178,7 +178,7 @@ def wrong_body_faults(page):
 
 def edit_faults():
     """Each edit that changes something else than code."""
-    for edit in sorted((TOP / "crates").glob("*/must-fail/*.edit")):
+    for edit in sorted([*(TOP / "crates").glob("*/must-fail/*.edit"), *(TOP / "crates").glob("*/wrong/*.edit")]):
         for number, line in enumerate(edit.read_text(encoding="utf-8").splitlines(), 1):
             if line.startswith("file: ") and not line.startswith("file: src/"):
                 yield f"{edit.relative_to(TOP)}:{number}: it changes {line[6:]}, which is no code"

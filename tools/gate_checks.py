@@ -1,0 +1,140 @@
+#!/usr/bin/env python3
+"""Runs the repository's own checks, which come after `rt ci` in the gate.
+
+usage: tools/gate_checks.py [--quick] [--strict] [--jobs N] [NAME ..]
+
+The wrong bodies come first, since they use all processors; then the other checks run side by side, N at once (default:
+as many as there are processors), those that take longest first. With NAMEs only these run. A check fails if its status
+isn't 0, and then its output is printed. A line `skipped: WHAT: WHY` of a check names a part that needs what isn't
+installed here. The last lines have the slowest checks with their seconds, the parts that were skipped, and 'N passed,
+M failed', with ', K skipped' if parts were. `--quick` leaves out the wrong bodies and the C library, for work in between
+landings. With `--strict` a skipped part counts as failed. Status 1: a check failed; 2: a word isn't known.
+"""
+import argparse
+import concurrent.futures
+import os
+import pathlib
+import subprocess
+import sys
+import threading
+import time
+
+TOP = pathlib.Path(__file__).resolve().parent.parent
+LIMIT = 3600  # seconds of one check
+SLOWEST = 6
+# Each check: its name and its command. Those that take longest come first.
+WRONG_BODIES = [
+    ("check_wrong_bodies --self-test", ["tools/check_wrong_bodies.py", "--self-test"]),
+    ("check_wrong_bodies", ["tools/check_wrong_bodies.py"]),
+]
+C_LIBRARY = [("check_c", ["tools/check_c.py", "--gate"])]
+CHECKS = [
+    ("check_hostile", ["tools/check_hostile.py"]),
+    ("make_conformance --check", ["tools/make_conformance.py", "--check"]),
+    ("check_watch", ["tools/check_watch.py", "40"]),
+    ("check_timeline", ["tools/check_timeline.py"]),
+    ("check_keymaps", ["tools/check_keymaps.py"]),
+    ("check_expect", ["tools/check_expect.py"]),
+    ("check_models", ["tools/check_models.py"]),
+    ("engines vt", ["tools/engines.py", "vt", "--cut", "--first"]),
+    ("check_redraw", ["tools/check_redraw.py", "200"]),
+    ("check_streams", ["tools/check_streams.py"]),
+    ("check_drill", ["tools/check_drill.py"]),
+    ("check_picture", ["tools/check_picture.py"]),
+    ("check_pages", ["tools/check_pages.py"]),
+    ("check_blocks", ["tools/check_blocks.py"]),
+    ("check_examples", ["tools/check_examples.py"]),
+    ("check_switches", ["tools/check_switches.py"]),
+    ("check_snippets", ["tools/check_snippets.py"]),
+    ("check_promises", ["tools/check_promises.py"]),
+    ("api --check", ["tools/api.py", "--check"]),
+    ("check_proved", ["tools/check_proved.py"]),
+    ("check_lemmas", ["tools/check_lemmas.py"]),
+    ("check_links", ["tools/check_links.py"]),
+    ("check_words", ["tools/check_words.py"]),
+    ("check_files", ["tools/check_files.py"]),
+    ("key_index --check", ["tools/key_index.py", "--check"]),
+    ("call_lists --check", ["tools/call_lists.py", "--check"]),
+]
+
+
+def run(command, is_shown=False):
+    """Whether a check passed, what it printed, and the seconds by the clock. It may be shown line by line."""
+    said, start, status = [], time.monotonic(), None
+    try:
+        with subprocess.Popen(
+            command, cwd=TOP, stdin=subprocess.DEVNULL, stdout=subprocess.PIPE, stderr=subprocess.STDOUT,
+            encoding="utf-8", errors="replace",
+        ) as running:  # fmt: skip
+            end = threading.Timer(LIMIT, running.kill)
+            end.start()
+            for line in running.stdout:
+                said.append(line)
+                if is_shown:
+                    print(line, end="", flush=True)
+            status = running.wait()
+            end.cancel()
+    except OSError as fault:
+        said.append(f"{command[0]}: {fault.strerror}\n")
+    seconds = time.monotonic() - start
+    if status and seconds >= LIMIT:
+        said.append(f"no end after {LIMIT} seconds\n")
+    return status == 0, "".join(said), seconds
+
+
+class Report:
+    """What was seen of the checks so far."""
+
+    def __init__(self):
+        self.passed, self.failed, self.skipped, self.seconds = 0, [], [], {}
+
+    def take(self, name, passed, said, seconds, is_shown=False):
+        self.seconds[name] = seconds
+        skipped = [it.removeprefix("skipped: ") for it in said.splitlines() if it.startswith("skipped: ")]
+        self.skipped += [f"{name}: {it}" for it in skipped]
+        last = said.rstrip("\n").rsplit("\n", 1)[-1]
+        print(f"{name}: {'passed' if passed else 'FAILED'}, {seconds:.0f} s{': ' + last if last else ''}", flush=True)
+        self.passed += passed
+        if not passed:
+            self.failed.append(name)
+            print("" if is_shown else said, end="", flush=True)
+
+    def end(self, is_strict):
+        """Prints the last lines, and gives the status."""
+        slowest = sorted(self.seconds, key=self.seconds.get, reverse=True)[:SLOWEST]
+        print("slowest: " + ", ".join(f"{name} {self.seconds[name]:.0f} s" for name in slowest))
+        for it in self.skipped:
+            print(f"skipped: {it}")
+        for it in self.failed:
+            print(f"failed: {it}")
+        more = f", {len(self.skipped)} skipped" if self.skipped else ""
+        print(f"{self.passed} passed, {len(self.failed)} failed{more}")
+        return 1 if self.failed or is_strict and self.skipped else 0
+
+
+def main():
+    parser = argparse.ArgumentParser(usage=__doc__.split("usage: ")[1].split("\n\n")[0])
+    parser.add_argument("--quick", action="store_true")
+    parser.add_argument("--strict", action="store_true")
+    parser.add_argument("--jobs", type=int, default=len(os.sched_getaffinity(0)))
+    parser.add_argument("names", nargs="*")
+    options = parser.parse_args()
+    first, beside = ([], CHECKS) if options.quick else (WRONG_BODIES, C_LIBRARY + CHECKS)
+    known = [name for name, _ in WRONG_BODIES + C_LIBRARY + CHECKS]
+    for name in options.names:
+        if name not in known:
+            print(f"gate_checks.py: no check {name}; the checks are {', '.join(known)}", file=sys.stderr)
+            return 2
+    is_wanted = lambda check: not options.names or check[0] in options.names
+    report = Report()
+    for name, command in filter(is_wanted, first):
+        report.take(name, *run(command, is_shown=True), is_shown=True)
+    with concurrent.futures.ThreadPoolExecutor(options.jobs) as pool:
+        running = {pool.submit(run, command): name for name, command in filter(is_wanted, beside)}
+        for done in concurrent.futures.as_completed(running):
+            report.take(running[done], *done.result())
+    return report.end(options.strict)
+
+
+if __name__ == "__main__":
+    sys.exit(main())
