@@ -54,7 +54,7 @@ NAMED = re.compile(r"`[\w/.-]+\.\w+`")
 # The first words of blocks that nothing runs, with the reason.
 LEFT = {
     "README.md": {"keyboard    a": DRAWING},
-    "docs/REDRAW.md": {"example_redraw 25 80": USAGE, "modes that the rows need": "the order of the parts of a text"},
+    "docs/REDRAW.md": {"redraw 25 80": USAGE, "modes that the rows need": "the order of the parts of a text"},
     "docs/REVIEW.md": {"A E display N": FORM},
     "docs/WATCH.md": {"watch < FILE": USAGE, "now: front F": FORM},
     "docs/contributing/architecture.md": {
