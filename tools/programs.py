@@ -25,13 +25,15 @@ import shutil
 import sys
 import tempfile
 
+from tool_files import Stop
+
 TOP = pathlib.Path(__file__).resolve().parent.parent
 # The crate of each program.
 CRATES = {"vt": "vt", "watch": "example_watch", "picture": "example_picture", "redraw": "example_redraw"}
 ONLY_PROVED = "VT_PROVED"
 
 
-class Missing(Exception):
+class Missing(Stop):
     """No such program is there: the message has the places and what makes it."""
 
 
@@ -72,36 +74,43 @@ def absence(name):
     return f"no program {name} is at any of its places: {', '.join(places)}; {advice}"
 
 
-def chosen(name, option):
+def chosen(name, option, status):
     """The path of the option or of the variable, or None if there is neither."""
     variable = os.environ.get(name.upper())
     for given, what in ((option, f"--{name}"), (variable, f"the variable {name.upper()}")):
         if given:
             found = shutil.which(os.fspath(given))
             if not found:
-                raise Missing(f"{what} names {given}, and no program is there")
+                raise Missing(status, f"{what} names {given}, and no program is there")
             return found
     return None
 
 
-def find(name, option=None):
-    """The path of a program; the option's path counts first."""
-    path = chosen(name, option)
+def find(name, option=None, status=2):
+    """The path of a program; the option's path counts first. The status is that of a tool which doesn't find it."""
+    path = chosen(name, option, status)
     if path is None:
         found = (shutil.which(str(place)) for place in own_places(name))
         path = next(filter(None, found), None) or shutil.which(installed_name(name))
     if path is None:
-        raise Missing(absence(name))
+        raise Missing(status, absence(name))
     if os.environ.get(ONLY_PROVED) and not is_proved(name, path):
-        raise Missing(f"{path} isn't the proved program {proved_path(name)}; {ONLY_PROVED} is set, so no other counts")
+        why = f"{ONLY_PROVED} is set, so no other program counts"
+        raise Missing(status, f"{path} isn't the proved program {proved_path(name)}; {why}")
     return pathlib.Path(path).absolute()
 
 
+@functools.lru_cache(maxsize=None)
 def find_for_check(name, option=None):
-    """The same for a check, which prints a line if it takes a program that isn't the proved one."""
-    path = find(name, option)
+    """The same for a check: it prints a line if the program isn't the proved one, and ends if there is none."""
+    tool = pathlib.Path(sys.argv[0]).name
+    try:
+        path = find(name, option)
+    except Missing as missing:
+        print(f"{tool}: {missing}", file=sys.stderr)
+        sys.exit(missing.status)
     if not is_proved(name, path):
-        print(f"{pathlib.Path(sys.argv[0]).name}: not proved: {path}", file=sys.stderr, flush=True)
+        print(f"{tool}: not proved: {path}", file=sys.stderr, flush=True)
     return path
 
 
@@ -132,10 +141,10 @@ def main():
         os.environ[ONLY_PROVED] = "1"
     try:
         for name in words:
-            print(find(name))
+            print(find(name, status=1))
     except Missing as missing:
         print(f"programs.py: {missing}", file=sys.stderr)
-        return 1
+        return missing.status
     return 0
 
 
