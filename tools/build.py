@@ -6,8 +6,8 @@ usage: tools/build.py [--jobs N] [--out FOLDER] [PART ..]
 PART is vt, watch, picture, redraw, cases (which answers the worked cases of crates/cases) or c (the C library). Without
 one, all are built, and c only if there is a C compiler. FOLDER (out in the clone) gets the programs as FOLDER/bin/PART,
 and the library as FOLDER/c, in the folders of tools/build_c.sh. A part whose sources are those of its last build stays.
-If FOLDER/c has a library that was proved, that stays. FOLDER/bin/BUILD names what was built, of which commit, and by
-which toolchain.
+If FOLDER/c has a library that was proved, that stays. FOLDER/bin/BUILD and FOLDER/c/BUILD name what was built, of which
+commit, and by which toolchain.
 
 The toolchain's compiler reads the sources of all parts at once, on one processor; then a compiler of its own makes each
 part, N of them side by side (as many as there are processors).
@@ -34,7 +34,7 @@ sys.dont_write_bytecode = True
 
 from programs import TOP  # noqa: E402: after the line that keeps tools/ clean
 from tool_files import Stop, reason  # noqa: E402
-from unproved.compiler import LEVEL, Compiler, link_library  # noqa: E402
+from unproved.compiler import LEVEL, Compiler, link_library, stop_all  # noqa: E402
 from unproved.crates import PARTS, has_c, rows, source_files, toolchain, toolchain_name  # noqa: E402
 from unproved.module import Module  # noqa: E402
 
@@ -42,7 +42,7 @@ STARTED = time.monotonic()
 # How long the sources of all parts are read, until a build has measured it.
 READING = 30.0
 SLOWEST = ("vt", "watch", "cases", "c")
-END = "not proved: `rt run` in crates/vt proves and builds vt (docs/guide/install.md has how long that takes)"
+END = "these parts are not proved; `rt run` in crates/vt proves and builds vt (docs/guide/install.md has the rest)"
 
 
 class Words(argparse.ArgumentParser):
@@ -105,14 +105,14 @@ class Kept:
 
     def write(self):
         """Writes both files."""
-        found = {"parts": self.parts, "reading": self.reading}
-        self.file.write_text(json.dumps(found, indent=1) + "\n", encoding="utf-8")
-        lines = [f"{part}: {found['line']}\n" for part, found in sorted(self.parts.items())]
+        whole = {"parts": self.parts, "reading": self.reading}
+        self.file.write_text(json.dumps(whole, indent=1) + "\n", encoding="utf-8")
+        lines = [f"{part}: {found['line']}\n" for part, found in self.parts.items() if part != "c"]
         (self.out / "bin/BUILD").write_text("".join(lines), encoding="utf-8")
 
 
-def build_parts(kit, parts, jobs, kept, uses):
-    """Builds these parts; gives how long the sources were read."""
+def built_parts(kit, parts, jobs, kept, uses):
+    """Builds these parts, and gives each when it is in its place."""
     (kept.out / "bin").mkdir(parents=True, exist_ok=True)
     key = " ".join(parts)
     with tempfile.TemporaryDirectory(prefix="vt-build-") as room:
@@ -130,11 +130,15 @@ def build_parts(kit, parts, jobs, kept, uses):
                 compiler.link_program(made, kept.place(part))
             return part
 
-        with concurrent.futures.ThreadPoolExecutor(jobs) as pool:
+        pool = concurrent.futures.ThreadPoolExecutor(jobs)
+        try:
             # (the slowest first, so that none of them is left for the end)
             tasks = [pool.submit(finish, part) for part in sorted(parts, key=lambda it: (*SLOWEST, it).index(it))]
-            for count, task in enumerate(concurrent.futures.as_completed(tasks), 1):
-                say(f"{kept.place(task.result())} ({count} of {len(tasks)})")
+            for task in concurrent.futures.as_completed(tasks):
+                yield task.result()
+        finally:
+            stop_all()
+            pool.shutdown(cancel_futures=True)
 
 
 def wanted_parts(parts, kept, sums):
@@ -156,11 +160,11 @@ def build(parts, out, jobs):
     kit_name = toolchain_name(kit)
     sums = {part: sum_of(part, kit_name, uses) for part in parts}
     wanted = wanted_parts(parts, kept, sums)
-    if wanted:
-        build_parts(kit, wanted, jobs, kept, uses)
-        line = f"not proved, commit {commit()}, {kit_name}, {LEVEL}, {time.strftime('%Y-%m-%d %H:%M %z')}"
-        kept.parts.update({part: {"sum": sums[part], "line": line} for part in wanted})
+    line = f"not proved, commit {commit()}, {kit_name}, {LEVEL}, {time.strftime('%Y-%m-%d %H:%M %z')}"
+    for count, part in enumerate(built_parts(kit, wanted, jobs, kept, uses) if wanted else (), 1):
+        kept.parts[part] = {"sum": sums[part], "line": line}
         kept.write()
+        say(f"{kept.place(part)} ({count} of {len(wanted)})")
     say(END)
 
 
