@@ -6,7 +6,8 @@ usage: tools/check_install.py
 A small clone is made of the files that an installation needs and of the programs and the library that are built here,
 proved or not. From there tools/install.sh installs into folders of their own; then that clone is removed. Each
 installed program and tool is run with a PATH that has these folders alone, and has to do what its page shows. The
-library is in the folder of LIBDIR. Programs and a library that aren't proved are refused without --unproved, and so are bad words.
+library is in the folder of LIBDIR. Programs and a library that aren't proved are refused without --unproved, and so are
+bad words.
 The archive of tools/release.sh has the sums of its files, is the same twice, and its programs run where it is unpacked.
 
 Prints a line for each thing that isn't so and last 'N passed, M failed'. Ends with status 1 if one fails, and with 2 if
@@ -29,7 +30,7 @@ SECONDS = 120
 INSTALLERS = ("install.sh", "release.sh", "user_tools.py", "programs.py", "tool_files.py")
 # What the tools run besides their own programs.
 OTHERS = ("env", "sh", "cat", "sed", "true")
-PAGES = ("man1/vt.1", "man3/vt.3", "man5/vt-session.5", "man5/vt-journal.5", "man5/vt-keymap.5")
+PAGES = ["man1/vt.1", "man1/vt-tools.1", "man3/vt.3", "man5/vt-session.5", "man5/vt-journal.5", "man5/vt-keymap.5"]
 LIBRARY = ("include/vt.h", "lib/libvt.a", "lib/libvt.so.1", "lib/libvt.so", "lib/pkgconfig/vt.pc")
 TEST = """SIZE 2 10
 PUSH "hello"
