@@ -5,8 +5,8 @@ usage: tools/quick_tests.py [--built] [--jobs N]
 
 First tools/build.py builds what has changed; with --built the programs of out/bin are taken as they stand. Then the
 worked cases, crates/cases/stdin, are answered by out/bin/cases and compared with crates/cases/stdout, case by case, and
-the checks of tools/ are run, N at a time (as many as there are processors). None needs a network. A check without its
-tools, such as a C compiler, is left out, and a line names it.
+the checks of tools/ are run with the programs of out/bin, N at a time (as many as there are processors). None needs a
+network. A check without its tools, such as a C compiler, is left out, and a line names it.
 
 Prints a line for each kind of case and for each check, with the output of one that fails, and last 'N passed, M
 failed', in which a case counts as one and so does a check. Statuses: 0 all passed; 1 one failed; 2 nothing was tested,
@@ -15,15 +15,18 @@ since the programs aren't there or the words aren't of the form.
 import argparse
 import concurrent.futures
 import os
-import pathlib
 import re
 import subprocess
 import sys
 import time
 
-TOP = pathlib.Path(__file__).resolve().parent.parent
+sys.dont_write_bytecode = True
+
+from programs import CRATES, ONLY_PROVED, TOP  # noqa: E402: after the line that keeps tools/ clean
+
 FOLDER = TOP / "crates/cases"
-CASES = TOP / "out/bin/cases"
+BUILT = TOP / "out/bin"
+CASES = BUILT / "cases"
 LIBRARY = TOP / "out/c/lib/libvt.a"
 SECONDS = 300
 SHOWN_LINES = 25
@@ -94,13 +97,20 @@ def is_left_out(check):
     return ""
 
 
+def environment():
+    """The variables of a check: it runs the programs that were just built, and not older ones that are proved."""
+    built = {name.upper(): str(BUILT / name) for name in CRATES if (BUILT / name).exists()}
+    return {**os.environ, **built, ONLY_PROVED: ""}
+
+
 def run_check(check):
-    """Runs a check; gives why it failed, or nothing."""
+    """Runs a check, and prints how it ended; gives whether it passed."""
     begun = time.monotonic()
     try:
         ran = subprocess.run(
             [TOP / "tools" / check.split()[0], *check.split()[1:]], cwd=TOP, stdin=subprocess.DEVNULL,
-            stdout=subprocess.PIPE, stderr=subprocess.STDOUT, timeout=SECONDS, check=False)  # fmt: skip
+            stdout=subprocess.PIPE, stderr=subprocess.STDOUT, timeout=SECONDS, check=False,
+            env=environment())  # fmt: skip
         status, lines = ran.returncode, ran.stdout.decode("utf-8", "replace").splitlines()
     except subprocess.TimeoutExpired:
         status, lines = f"none, since it didn't end within {SECONDS} s", []

@@ -9,6 +9,8 @@
 # Statuses: 0 packed; 1 a program or the library isn't built, or isn't proved (--unproved takes what tools/build.py
 # made), a file of the clone was changed since its commit or since the program was built, or a step failed.
 set -eu
+# (only the programs of this clone)
+unset VT WATCH PICTURE REDRAW
 
 stop() {
     echo "release.sh: $*" >&2
