@@ -49,9 +49,11 @@ script = ["open 1", "say 0 a"]
 
 def run(words, given="", **how):
     """Runs a command; gives its status, and what it prints on both streams."""
-    ran = subprocess.run(
-        [str(word) for word in words], input=given.encode(), capture_output=True, timeout=SECONDS, check=False,
-        **how)  # fmt: skip
+    how.update(input=given.encode(), capture_output=True, timeout=SECONDS, check=False)
+    try:
+        ran = subprocess.run([str(word) for word in words], **how)
+    except OSError as fault:
+        return -1, "", str(fault)
     return ran.returncode, ran.stdout.decode("utf-8", "replace"), ran.stderr.decode("utf-8", "replace")
 
 
@@ -207,9 +209,10 @@ def check_release(check, clone, folder):
         check.holds("vt: proved, commit " in (unpacked / "BUILD").read_text(encoding="utf-8"), "BUILD of the archive")
         do = Installed(path_of(unpacked, folder / "system"), folder / "run")
         check_programs(check, do)
-    (clone.top / "crates/key_syms/src/table.rt").touch()
+    for source in clone.top.glob("crates/*/src/*.rt"):
+        source.touch()
     status, _, err = run([clone.top / "tools/release.sh", folder])
-    check.holds(status == 1 and "table.rt was changed after" in err, f"an older program is released: {status}, {err}")
+    check.holds(status == 1 and ".rt was changed after" in err, f"an older program is released: {status}, {err}")
     (clone.top / "crates.txt").write_text("changed\n", encoding="utf-8")
     status, _, err = run([clone.top / "tools/release.sh", folder])
     check.holds(status == 1 and "crates.txt" in err, f"a changed file is released: {status}, {err}")
