@@ -129,9 +129,10 @@ def built_parts(kit, parts, given, kept, uses):
         say(f"reading the sources of {', '.join(parts)}, on one processor, with 1 GB of memory")
         kept.reading[key] = compiler.read_sources(parts, uses, kept.reading.get(key, READING))
         module = Module(compiler.module_text())
-        say(f"{len(module.functions)} functions were read; compiling, {given.jobs} at a time")
+        say(f"{len(module.functions)} functions were read; up to {given.jobs} parts are compiled at a time")
 
         def finish(part):
+            say(f"compiling {part}")
             text = module.of_part(part)
             keep_module(given.modules, part, text)
             made = compiler.compile(part, text)

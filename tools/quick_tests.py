@@ -30,7 +30,7 @@ CASES = BUILT / "cases"
 LIBRARY = TOP / "out/c/lib/libvt.a"
 SECONDS = 300
 SHOWN_LINES = 25
-OF_C = "header,codes,cuts,outs,memory,threads,keys,faults,terminal,python"
+OF_C = "header,codes,cuts,outs,memory,threads,keys,faults,terminal,python,install,guide"
 # The checks, in groups that aren't run side by side: those of a group write the same files. The longest come first.
 CHECKS = [
     ["check_streams.py"],
