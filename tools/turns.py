@@ -4,7 +4,7 @@
     tools/turns.py SESSION.toml > NUMBERED.toml
 
 The items of `turns` are texts; a number counts as one turn of that caller. CALLER is k0 to k3 or p1 to p64, as in a
-journal:
+journal. The words of an item are:
 
     CALLER once                one call
     CALLER N times             N calls
@@ -13,10 +13,11 @@ journal:
     CALLER until it is over    calls until its program is over
     all until they wait        rounds of rising callers, the further keyboards last, until each waits or is over
     all but CALLER [CALLER ..] until they wait
+                               the same without these callers
 
-Everything but `turns` stays as it is. Words that no play reaches are refused: `turns.py: turns 3: ..`, 3 the item.
-Exit status: 0 written, 1 the session or its words are refused, 2 the program doesn't run or Python is older than 3.11,
-3 a file can't be read or written.
+Everything except `turns` stays as it is. Words of another form are refused with this list, and so are words that no
+play reaches: `turns.py: turns 3: ..`, 3 the item. Exit status: 0 written, 1 the session or its words are refused, 2 the
+program doesn't run or Python is older than 3.11, 3 a file can't be read or written.
 """
 import argparse
 import pathlib
@@ -62,6 +63,11 @@ def word_of(number):
 
 def refuse(place, why):
     raise Stop(1, f"turns {place}: {why}")
+
+
+def word_list():
+    """The words that an item may have, as they stand in the text at the top of this file."""
+    return re.search(r"    CALLER once.*?(?=\n\n)", __doc__, re.S)[0]
 
 
 # The text of `turns` in the session.
@@ -291,7 +297,7 @@ def do_word(players, scripts, place, text):
         if found:
             break
     else:
-        refuse(place, f"no such words: {text}")
+        refuse(place, f"no such words: {text}\nCALLER is k0 to k3 or p1 to p64. The words are:\n{word_list()}")
     named = (found[1] or "").split()
     for caller in named:
         if caller not in scripts.items:
@@ -331,7 +337,11 @@ def numbered(program, given):
 
 
 def main():
-    parser = argparse.ArgumentParser(description="Writes a session whose turns are words as one with numbers.")
+    parser = argparse.ArgumentParser(
+        description="Writes a session whose turns are words as one with numbers.",
+        epilog=f"The words of an item of turns, with CALLER k0 to k3 or p1 to p64:\n\n{word_list()}",
+        formatter_class=argparse.RawDescriptionHelpFormatter,
+    )
     parser.add_argument("session", help="the session, or - for standard input")
     parser.add_argument("-o", "--output", help="where the session is written; standard output without it")
     parser.add_argument("--vt", default=str(PROGRAM), help="the program vt")
