@@ -87,11 +87,18 @@ MADE = [
 LOST = [
     ("keycode 30 = Hex_1\n", ["-:1: Hex_1: vt has decimal digits alone", "keycode 30, table 0"]),
     ("keymaps 0-1\n\nkeycode 30 = a dead_macron\n", ["-:3: dead_macron: ", "keycode 30, table 1"]),
-    ("keycode 0 = a\nkeycode 1 = b\n", ["-:1: keycode 0: "]),
+    ("keycode 0 = a\nkeycode 1 = b\n", ["-:1: keycode 0: ", "keymap.py: 1 of 2 entries differ in vt: keycode 0 1\n"]),
+    (
+        "keymaps 0-1,300\nkeycode 1 = a b c\nkeycode 300 = d e f\n",
+        ["4 of 6 entries differ in vt: ", "keycodes past 255 2", "tables past 255 2"],
+    ),
     ("keycode 1 = KP_MinPlus\n", ["types ? for it"]),
     ("keycode 1 = 0x0e04\n", ["braille"]),
-    ('keycode 1 = a\nstring F1 = "' + "x" * 256 + '"\n', ["a string of 256 bytes"]),
-    ("keycode 1 = a\n" + "compose 'a' 'b' to 'c'\n" * 257, ["-:258: 'a' 'b' to 'c': pair 257, and vt takes 256"]),
+    ('keycode 1 = a\nstring F1 = "' + "x" * 256 + '"\n', ["a string of 256 bytes", "keymap.py: 1 string\n"]),
+    (
+        "keycode 1 = a\n" + "compose 'a' 'b' to 'c'\n" * 258,
+        ["-:258: 'a' 'b' to 'c': pair 257, and vt takes 256", "keymap.py: 2 compose pairs\n"],
+    ),
     ('charset "iso-8859-1"\nkeycode 1 = euro\n', ["-:2: euro: ", "another character"]),
 ]
 
@@ -231,7 +238,10 @@ def refused_faults():
         (place / "parts").mkdir()
         (place / "parts/letters.inc.gz").write_bytes(gzip.compress(b"keycode 30 = a\n"))
         (place / "whole.map").write_text('keymaps 0\ninclude "letters"\n')
+        (place / "parts/zork-latin1.kmap").write_text("keycode 30 = a\n")
         for words, part in [
+            (["--search", place / "parts", "zork-latin"], "is it zork-latin1"),
+            (["--search", place / "parts", "qqqqqqqq"], "none with a name like it"),
             ([place / "loop.map"], "deep"),
             ([place / "torn.map.gz"], "can't be read"),
             ([place / "none.map"], "there is no such keymap"),

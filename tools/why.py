@@ -8,7 +8,6 @@ keymaps, of sessions and tables in TOML, and of journals, and the reasons of `ch
 what kbd has under that name and how to write it for vt. Status 0 means that it explained a line of vt, 1 that it
 found none, 2 that FILE can't be read.
 """
-import difflib
 import re
 import sys
 
@@ -19,7 +18,7 @@ except ModuleNotFoundError:
 
 import kbd_tables
 import keymap
-from kbd_text import KeymapError
+from kbd_text import KeymapError, near
 from vt_names import ACTIONS
 
 KEYMAP_CODES = {
@@ -98,12 +97,6 @@ def marked(text, line, column):
     blanks = "".join("\t" if c == "\t" else " " for c in front)
     yield "    " + printable(shown)
     yield "    " + blanks + "^" * max(1, len(word_at(shown, column)))
-
-
-def near(name, names):
-    """Returns the names that are spelled almost like one."""
-    same = [other for other in names if other.lower() == name.lower()]
-    return same or difflib.get_close_matches(name, names, 3, 0.75)
 
 
 def about_action(name, number):
