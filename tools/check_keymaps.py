@@ -1,5 +1,5 @@
 #!/usr/bin/env python3
-"""Checks that keymaps of kbd come in: tools/keymap.py on examples/keymaps and on damaged keymaps, and tools/why.py.
+"""Checks that keymaps of kbd come in: tools/keymap.py on examples/keymaps and on damaged keymaps.
 
 usage: tools/check_keymaps.py [--vt PROGRAM] [COUNT]
 
@@ -9,7 +9,7 @@ usage: tools/check_keymaps.py [--vt PROGRAM] [COUNT]
   run as a program, ends with status 0 or 1 on some of them, and no run prints a traceback.
 - Each entry that is lost is listed, and --strict refuses the keymap; a file that can't be read is refused with a
   reason.
-- tools/why.py explains lines of vt, and docs/guide/bring-your-keymap.md shows what its commands print.
+- docs/guide/bring-your-keymap.md shows what its commands print.
 
 It needs neither kbd nor its keymaps. Prints a line for each fault and last 'N passed, M failed'; status 1 if one fails.
 """
@@ -47,24 +47,6 @@ PIECES = [
     b"\xff", b"\0", b"\r\n", b"=", b"+", b"-", b",", b"!", b"\xc3\xa4", b"Hex_3 ", b"KP_MinPlus ", b"Brl_dot1 ",
     b"dead_macron ",
 ]  # fmt: skip
-
-# What vt writes on err for a keymap, and what tools/why.py has to say about it: parts of its lines.
-EXPLAINED = [
-    (
-        "keymaps 0-2\n\tkeycode 31 = +aogonek\n",
-        ["keymap:2:15: an unknown symbol", "\t             ^^^^^^^^", "U+0105", "+U+0105"],
-    ),
-    ("keycode 30 = Hex_1\n", ["VoidSymbol", "Ascii_0"]),
-    ("keycode 30 = pound\n", ["sterling"]),
-    ("keycode 30 = 0x0305\n", ["KP_5"]),
-    ("keycode 30 = escape\n", ["Is it Escape?"]),
-    ("keycode 30 = \u00e4\n", ["U+00E4"]),
-    ("keycode 30=a\n", ["30 = a"]),
-    ("keycode 0 = a\n", ["No key has keycode 0"]),
-    ('include "pc"\n', ["tools/keymap.py"]),
-    ("capsshift keycode 3 = a\n", ["vt has eight"]),
-    ("keycode 30 = a\nkeymaps 0\n", ["put all keymaps lines in front"]),
-]
 
 # Keymaps, and the entries that vt lists of the converted ones, as loadkeys makes them: table, keycode, kind, value.
 MADE = [
@@ -275,23 +257,6 @@ def name_faults():
             ) == action else f"{name}: made {keymap.action_of(number)}, and it is {action}"
 
 
-def why_faults(program):
-    """Gives a fault, or None, for each line of vt that tools/why.py explains."""
-    with tempfile.TemporaryDirectory() as folder:
-        path = pathlib.Path(folder) / "keymap"
-        for text, parts in EXPLAINED:
-            path.write_text(text, encoding="utf-8")
-            err = subprocess.run(
-                [program, "keys"], input=text.encode(), capture_output=True, timeout=SECONDS, check=False
-            ).stderr
-            ran = subprocess.run(
-                [sys.executable, TOOLS / "why.py", path], input=err, capture_output=True, timeout=SECONDS, check=False
-            )
-            told = ran.stdout.decode()
-            missing = [part for part in parts if part not in told]
-            yield f"why.py: {text!r}: no {missing} in {told!r} {ran.stderr!r}" if missing or ran.returncode else None
-
-
 def page_faults():
     """Gives a fault for each command of the guide that prints something else."""
     yield None
@@ -312,7 +277,6 @@ def main():
         made_faults(asked.vt),
         lost_faults(),
         refused_faults(),
-        why_faults(asked.vt),
         page_faults(),
     ]
     groups += [program_faults(asked.count // 20), damage_faults(asked.vt, asked.count)]
