@@ -63,7 +63,7 @@ JOURNAL_CODES = {
 REASONS = {
     1: "its caller isn't one of the session, or its count isn't the number of the caller's calls before",
     2: "its call isn't the next one of its caller's program",
-    3: "its answer isn't the one that the console gives there",
+    3: "its answer isn't the one that the machine gives there",
     4: "at the end, a program isn't over",
     5: "the journal is past a limit of the session, or its last line has other numbers",
     6: "the certificate is not accepted at this item",
