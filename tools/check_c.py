@@ -16,7 +16,7 @@ usage: check_c.py [--library OUT | --gate] [--vt PROGRAM] [--only CHECK,..] [--r
 - `guide`: the files and commands of docs/library/c.md, in an empty folder.
 
 OUT is a folder that tools/build_c.sh filled; without it the library is built first, with --gate over the crates that
-`rt ci` just left. The program is crates/vt/out/vt.
+`rt ci` just left.
 If a tool isn't there, a line names the check that is skipped. Prints a line for each thing that isn't so and last 'N
 passed, M failed'; ends with status 1 if one fails, and with 2 if the library isn't built or a file is missing.
 """
@@ -36,6 +36,7 @@ sys.dont_write_bytecode = True
 from c_library import drawn, guide, programs, terminal, typed  # noqa: E402: after the line that keeps tools/ clean
 from c_library.bench import (  # noqa: E402
     EXAMPLES, SANITIZERS, TESTS, TOP, VALGRIND, WARNINGS, Bench, Missing)
+from programs import find_for_check  # noqa: E402
 from tool_files import Stop, number  # noqa: E402
 
 HEADER = TOP / "include/vt.h"
@@ -222,7 +223,7 @@ def main():
     words = argparse.ArgumentParser(description=__doc__.split("\n\n")[0])
     words.add_argument("--library", metavar="OUT", help="a folder that tools/build_c.sh filled")
     words.add_argument("--gate", action="store_true", help="the library is built over the crates that rt ci just left")
-    words.add_argument("--vt", default=TOP / "crates/vt/out/vt", metavar="PROGRAM", help="the program vt")
+    words.add_argument("--vt", metavar="PROGRAM", help="the program vt; the one that tools/programs.py finds without it")
     words.add_argument("--only", default=",".join(CHECKS), metavar="CHECK,..", help=", ".join(CHECKS))
     words.add_argument("--runs", default="1000", metavar="N", help="how many random runs of keys")
     given = words.parse_args()
@@ -235,11 +236,12 @@ def main():
     except ValueError as fault:
         raise Stop(2, f"check_c.py: {fault}") from None
     library = pathlib.Path(given.library or build(["--gate"] * given.gate)).absolute()
-    for file in (library / "lib/libvt.a", library / "lib/libvt.so.1", pathlib.Path(given.vt)):
+    program = find_for_check("vt", given.vt)
+    for file in (library / "lib/libvt.a", library / "lib/libvt.so.1"):
         if not file.exists():
             raise Stop(2, f"{file} isn't there")
     with tempfile.TemporaryDirectory() as folder:
-        bench = Bench(library, folder, pathlib.Path(given.vt).absolute())
+        bench = Bench(library, folder, program)
         for name in names:
             try:
                 CHECKS[name](bench)

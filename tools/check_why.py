@@ -22,6 +22,7 @@ sys.dont_write_bytecode = True
 
 # After the line that keeps tools/ clean.
 import why  # noqa: E402
+from programs import find_for_check  # noqa: E402
 
 TOP = pathlib.Path(__file__).resolve().parent.parent
 SECONDS = 60
@@ -166,12 +167,10 @@ def is_read(text):
 def main():
     parser = argparse.ArgumentParser(description="Checks tools/why.py.")
     parser.add_argument("count", nargs="?", type=int, default=300, help="how many damaged sessions (default: 300)")
-    parser.add_argument("--vt", default=str(why.PROGRAM), metavar="PROGRAM", help="the program vt")
+    parser.add_argument("--vt", metavar="PROGRAM", help="the program vt")
     asked = parser.parse_args()
-    if not pathlib.Path(asked.vt).exists():
-        print(f"{asked.vt} is missing")
-        return 2
-    results = list(itertools.chain(explained_faults(asked.vt), coverage_faults(), damage_faults(asked.vt, asked.count)))
+    program = find_for_check("vt", asked.vt)
+    results = list(itertools.chain(explained_faults(program), coverage_faults(), damage_faults(program, asked.count)))
     faults = [it for it in results if it]
     for fault in faults:
         print(fault)

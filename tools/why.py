@@ -6,11 +6,10 @@ usage: vt keys < FILE 2>&1 > /dev/null | tools/why.py [--vt PROGRAM] FILE
 It reads vt's standard error on its own standard input, and FILE is the input that vt read. It knows the codes of
 keymaps, of sessions and tables in TOML, and of journals, and the reasons of `check`. For an unknown symbol it prints
 what kbd has under that name and how to write it for vt; for a word of a session that isn't known, the words like it;
-for a journal whose answer or call is wrong, the right one, by a play of the session with PROGRAM. Status 0 means that
-it explained a line of vt, 1 that it found none, 2 that FILE can't be read.
+for a journal whose answer or call is wrong, the right one, by a play of the session (tools/programs.py finds vt).
+Status 0 means that it explained a line of vt, 1 that it found none, 2 that FILE can't be read.
 """
 import argparse
-import pathlib
 import re
 import sys
 
@@ -76,7 +75,6 @@ STATUSES = {
     "input too long": "screen reads 67,108,864 bytes, and every other command 16,777,216",
     "journal full": "a call found no room in the journal: the session's keys events and bytes set the room",
 }
-PROGRAM = pathlib.Path(__file__).resolve().parent.parent / "crates/vt/out/vt"
 
 
 def word_at(line, column):
@@ -290,7 +288,7 @@ def main():
         description="Explains the line that vt writes on standard error.",
     )
     parser.add_argument("file", metavar="FILE", help="the input that vt read")
-    parser.add_argument("--vt", default=str(PROGRAM), metavar="PROGRAM", help="the program vt, which plays a session")
+    parser.add_argument("--vt", metavar="PROGRAM", help="the program vt, which plays a session")
     asked = parser.parse_args()
     try:
         with open(asked.file, "rb") as file:

@@ -7,6 +7,7 @@ import re
 import subprocess
 
 from kbd_text import near
+from programs import Missing, find
 from session_words import CALLS, ERRORS, HOOKS, NOT_IN_SCRIPTS, PROCESS_KEYS, REQUESTS, TOP_KEYS, TYPE_KEYS
 from turns import number_of, token_end, turns_span, with_turns
 from tool_files import Stop
@@ -304,15 +305,15 @@ def version_2(line):
     return word if word[0] in "kp" else "k0" if word == "0" else f"p{word}"
 
 
-def right_entry(program, session, entries, at):
+def right_entry(option, session, entries, at):
     """Gives a line with the machine's answer to an entry, or with the call that the caller makes there."""
     try:
         callers = [version_2(line) for line in entries[: at + 1]]
-        played = played_entry(program, session, callers)
-    except OSError as error:
-        yield f"The answer of the machine isn't shown, since {program} doesn't run: {error.strerror}. --vt names another."
+        played = played_entry(find("vt", option), session, callers)
+    except Missing as missing:
+        yield f"The machine's answer isn't shown: {missing}"
         return
-    except (ValueError, IndexError, subprocess.TimeoutExpired):
+    except (OSError, ValueError, IndexError, subprocess.TimeoutExpired):
         return
     if played is None or played.split(" ")[0] != callers[-1]:
         yield f"{callers[-1]} makes no call there: its program is over, or it waits."

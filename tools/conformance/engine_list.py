@@ -4,6 +4,8 @@ import pathlib
 import shutil
 import subprocess
 
+from programs import find
+
 from . import judge
 from .adapters import Program
 from .device import Device
@@ -13,7 +15,7 @@ from .tmux import Tmux
 HERE = pathlib.Path(__file__).resolve().parent
 BUILT = HERE / "out"
 # What the driver in C of an engine stands on.
-WANTED = {"libvterm": "Debian's libvterm-dev", "libvt": "the library in out/c, which tools/build_c.sh makes"}
+WANTED = {"libvterm": "Debian's libvterm-dev", "libvt": "the library in out/c, which tools/build.py makes"}
 
 
 class Vt:
@@ -67,7 +69,7 @@ def pyte():
 
 def engines(given):
     """The engines that the words name: vt where they name none."""
-    makers = {"vt": lambda: Vt(given.vt), "libvt": libvt, "pyte": pyte}
+    makers = {"vt": lambda: Vt(find("vt", given.vt)), "libvt": libvt, "pyte": pyte}
     makers |= {"libvterm": lambda: driver("libvterm", "-lvterm"), "tmux": Tmux}
     names = list(dict.fromkeys(given.engine))
     unknown = [name for name in names if name not in makers]
