@@ -6,8 +6,8 @@ repository, with the programs that tools/programs.py finds, and the indented lin
 line `..` stands for any lines. So is each line `$ COMMAND` of an example in man/; the examples of a session and of a
 keymap there have to be accepted, and each command of vt(1) has an example. docs/codes.md has a row for each code of
 tools/why.py. The words of tools/session_words.py are those of the tables of docs/JOURNAL.md, docs/SESSIONS.md and
-docs/TYPING.md; its requests of ioctl_console(2), with their calls, are the rows of docs/COMPATIBILITY.md, and
-docs/SWITCHING.md and docs/JOURNAL.md name the same calls for them. The adapter of
+docs/TYPING.md; its requests of ioctl_console(2), with their calls, are the rows of docs/COMPATIBILITY.md,
+docs/SWITCHING.md and docs/JOURNAL.md name the same calls for them, and vt-journal(5) lists those without. The adapter of
 docs/guide/write-a-terminal.md answers a case. The lines of a journal that docs/guide/tour.md quotes have to stand in
 examples/tour.journal, in the same order. docs/guide/test-a-terminal-program.md is run by
 tools/check_expect.py, the programs of docs/guide/embed-a-crate.md by tools/check_snippets.py, and docs/library/c.md by
@@ -161,6 +161,9 @@ def request_faults():
         for name, call in session_words.REQUESTS.items():
             if call != named.get(name, call) or (call and name not in named and name != "KDGKBDIACR"):
                 yield f"{page}: {name} is {named.get(name)} there, and {call}"
+    manual = (TOP / "man/vt-journal.5").read_text(encoding="utf-8").split("have no call:")[-1]
+    if re.findall(r"[A-Z_]+", manual) != [name for name, call in session_words.REQUESTS.items() if not call]:
+        yield "vt-journal.5: the requests without a call are others"
 
 
 def word_faults():
