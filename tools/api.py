@@ -121,8 +121,9 @@ def path_of(words):
 
 
 def bare(link):
-    """Gives the name of a link, in backquotes."""
-    return f"`{'::'.join(path_of(link[1]))}`"
+    """Gives the name of a link in backquotes; a module of the crate keeps its whole path."""
+    path = path_of(link[1])
+    return f"`{link[1] if len(path) == 1 and path[0].islower() else '::'.join(path)}`"
 
 
 class Headings:
@@ -146,7 +147,8 @@ class Headings:
             for place in places:
                 for name in ("::".join(path[-2:]), path[-1]):
                     if name in self.names[place]:
-                        return f"[{bare(link)}]({'' if place == crate else place + '.md'}#{slug(name)})"
+                        page = "" if place == crate else f"{place}.md"
+                        return f"[`{'::'.join(path_of(link[1]))}`]({page}#{slug(name)})"
             return bare(link)
 
         return linked
