@@ -33,6 +33,7 @@ from check_snippets import stands_in  # noqa: E402
 from programs import CRATES, find_for_check  # noqa: E402
 
 DRAWING, FORM, USAGE = "a drawing", "the form of lines, with names for their parts", "a usage line with names for its parts"
+BUILD = "a build of all programs; check_build.py builds one of them"
 # The tools that check the commands and files of a page in a folder of its own.
 ELSEWHERE = {
     "docs/guide/test-a-terminal-program.md": "check_expect.py",
@@ -54,7 +55,7 @@ FILE = re.compile(r"`((?:crates|examples|include)/[\w/.-]+)`")
 NAMED = re.compile(r"`[\w/.-]+\.\w+`")
 # The first words of blocks that nothing runs, with the reason.
 LEFT = {
-    "README.md": {"keyboard    a": DRAWING},
+    "README.md": {"keyboard    a": DRAWING, "tools/build.py &&": BUILD},
     "docs/REDRAW.md": {"redraw 25 80": USAGE, "modes that the rows need": "the order of the parts of a text"},
     "docs/REVIEW.md": {"A E display N": FORM},
     "docs/WATCH.md": {"watch < FILE": USAGE, "now: front F": FORM},
@@ -69,8 +70,12 @@ LEFT = {
     "docs/guide/embed-a-crate.md": {
         "cd my-console/crates/first && rt check": "a proof of some minutes; check_snippets.py compiles and runs the program",
     },
-    "docs/guide/install.md": {"tools/install.sh": "check_c.py installs into a folder of its own"},
-    "docs/guide/test-a-terminal-program.md": {"PATH=": "check_expect.py sets the same path"},
+    "docs/guide/install.md": {
+        "tools/build.py": BUILD, "PATH=": "check_pages.py sets such a path",
+        "tools/copy_crates.py": "a proof of all programs", "for it in": "it copies the programs of that proof",
+        "tools/install.sh": "check_install.py installs into a folder of its own",
+    },
+    "docs/guide/test-a-terminal-program.md": {"PATH=": "check_expect.py sets such a path"},
     "docs/guide/tour.md": {"console 1  ====": DRAWING},
     "docs/guide/write-a-terminal.md": {"sequence          pyte": "measured figures of other engines"},
     "docs/library/c.md": {"bench/c_library.py": "a measurement of many minutes"},

@@ -31,15 +31,22 @@ class Vt:
         return judge.judge(self.program, cases)
 
 
+def built_folder():
+    """The folder of the compiled adapters: beside their sources, or in the user's cache if that can't be written."""
+    if os.access(BUILT if BUILT.exists() else HERE, os.W_OK):
+        return BUILT
+    return pathlib.Path(os.environ.get("XDG_CACHE_HOME") or "~/.cache").expanduser() / "vt"
+
+
 def driver(name, *options):
     """The adapter in C of an engine, compiled where it is missing or older than its sources."""
-    source, built = HERE / f"{name}.c", BUILT / name
+    source, built = HERE / f"{name}.c", built_folder() / name
     newest = max(file.stat().st_mtime for file in (source, HERE / "adapter.h", *(HERE / it for it in options if isinstance(it, pathlib.Path))))
     if not built.exists() or built.stat().st_mtime < newest:
         compiler = shutil.which("cc") or shutil.which("gcc")
         if not compiler:
             raise Fault(f"{name}: a C compiler was wanted for tools/conformance/{name}.c")
-        BUILT.mkdir(exist_ok=True)
+        built.parent.mkdir(parents=True, exist_ok=True)
         part = f"{built}.{os.getpid()}"
         words = [compiler, "-O2", "-o", part, source, *options]
         ran = subprocess.run(words, capture_output=True, text=True, check=False)
