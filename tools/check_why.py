@@ -54,6 +54,7 @@ EXPLAINED = [
     ("play", "rows = 2\nrows = 3\n", ["(code 20)", "    rows = 3"]),
     ("play", "rowz = 3\n", ["in:1:1: ", "(code 21 at 0:0", "    rowz = 3\n    ^^^^\n", "is it rows"]),
     ("play", f"{PROCESS}[[process]]\nhom = 1\n", ["in:4:1: ", "process 2", "is it home?"]),
+    ("check", f"rowz = 3\n{JOURNAL}%end 3 192\n", ["in:1:1: ", "is it rows"]),
     ("type", "mode = 1\nrows = 2\n", ["(code 21", "mode is a key of tables for `vt type`"]),
     ("play", "rows = 'a'\n", ["in:1:1: ", "(code 22 at 0:1", "The key rows has to be an integer from 1 to 255."]),
     ("play", f"turns = ['p1 once']\n{PROCESS}", ["(code 22 at 0:10", "tools/turns.py"]),

@@ -214,8 +214,8 @@ def about_keymap(path, text, code, line, column):
 
 
 def about_table(path, text, code, first, second):
-    """Gives the lines about a fault of a session or of a table for `vt type`."""
-    document = text.decode("utf-8", "replace")
+    """Gives the lines about a fault of a session, which a journal may follow, or of a table for `vt type`."""
+    document = re.split("^%journal [12]$", text.decode("utf-8", "replace"), maxsplit=1, flags=re.M)[0]
     if code == 24:
         yield from about_inner_keymap(path, document, first, second)
     elif code == 20:
