@@ -7,11 +7,11 @@ usage: tools/api.py CRATE [NAME]
 
 Each part has the text of the source: the comment, the signature, and the clauses of the contract. Fields that aren't
 public are left out. With NAME, a type, a trait, a call or a constant, only this one is printed. The first lines are the
-crate's sentence, the crates that it needs, and where its clauses are in words. A link of a comment leads to the heading of its
-name, on the page of the crate or of one that it needs; in code, and if no heading has the name, it is the name alone.
-`--write` writes a page for each library into docs/library/api/, with README.md as their list, and removes pages of
-crates that are gone; `--check` prints a line for each page that isn't as it would be written. The status is 1 if there
-is one, or no such library or name.
+crate's sentence, the crates that it needs, and where its clauses are in words. A link of a comment leads to the heading
+of its name, on the page of the crate or of one that it needs; in code, and if no heading has the name, it is the name
+alone. `--write` writes a page for each library into docs/library/api/, with README.md as their list, and removes pages
+of crates that are gone; `--check` prints a line for each page that isn't as it would be written. The status is 1 if
+there is one, or no such library or name.
 """
 import re
 import sys

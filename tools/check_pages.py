@@ -7,8 +7,8 @@ line `..` stands for any lines. So is each line `$ COMMAND` of an example in man
 keymap there have to be accepted, and each command of vt(1) has an example. docs/codes.md has a row for each code of
 tools/why.py. The words of tools/session_words.py are those of the tables of docs/JOURNAL.md, docs/SESSIONS.md and
 docs/TYPING.md; its requests of ioctl_console(2), with their calls, are the rows of docs/COMPATIBILITY.md,
-docs/SWITCHING.md and docs/JOURNAL.md name the same calls for them, and vt-journal(5) lists those without. The adapter of
-docs/guide/write-a-terminal.md answers a case. The lines of a journal that docs/guide/tour.md quotes have to stand in
+docs/SWITCHING.md and docs/JOURNAL.md name the same calls for them, and vt-journal(5) lists those without. The adapter
+of docs/guide/write-a-terminal.md answers a case. The lines of a journal that docs/guide/tour.md quotes have to stand in
 examples/tour.journal, in the same order. docs/guide/test-a-terminal-program.md is run by
 tools/check_expect.py, the programs of docs/guide/embed-a-crate.md by tools/check_snippets.py, and docs/library/c.md by
 tools/check_c.py. Prints a line for each difference. The status is 1 if there is one, and 2 if a program isn't built.
@@ -168,7 +168,8 @@ def request_faults():
 
 def word_faults():
     """Gives a fault for each list of words that isn't that of its page."""
-    calls = [form for first, *_ in rows_of("JOURNAL.md", "The words of calls") for form in re.findall("`([^`]+)`", first)]
+    rows = rows_of("JOURNAL.md", "The words of calls")
+    calls = [form for first, *_ in rows for form in re.findall("`([^`]+)`", first)]
     tables = [cells[1] for cells in rows_of("SESSIONS.md", "The table") if cells[0].isdigit()]
     typing = [cells[0].strip("`") for cells in rows_of("TYPING.md", "`vt type`") if cells[1].isdigit()]
     for name, found, wanted in [

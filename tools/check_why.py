@@ -63,7 +63,7 @@ EXPLAINED = [
     ("play", "consoles = [1, 1]\n", ["(code 23 at 0:3", "none twice"]),
     ("play", "keymap = '''\nkeycode 30 = escape\n'''\n", ["(code 24 at 1:14)", "             ^^^^^^", "Is it Escape?"]),
     ("play", f"{PROCESS}script = ['open 1', 'opne 2']\n",
-        ["in:3:21: ", "(code 25 at 1:2: process 1, item 2 of script)", "\n                        ^^^^^^^^\n", "is it `open N`"]),
+        ["in:3:21: ", "(code 25 at 1:2: process 1, item 2 of script)", "\n" + " " * 24 + "^^^^^^^^\n", "is it `open N`"]),
     ("play", f"{PROCESS}script = ['getkbtype 0']\n", ["There is no call getkbtype: docs/JOURNAL.md has the calls."]),
     ("play", f"{PROCESS}script = ['VT_ACTIVATE 0 2']\n", ["VT_ACTIVATE is the call `activate FD N`."]),
     ("play", f"{PROCESS}script = ['kdgkbtype 0']\n", ["vt has no call for KDGKBTYPE"]),
@@ -71,7 +71,7 @@ EXPLAINED = [
     ("play", f"{PROCESS}script = ['open 01']\n", ["'01' is no N of `open N`: a number up to 65,535"]),
     ("play", f"{PROCESS}script = ['write 0 6A']\n", ["'6A' is no B of `write FD B`: two lower-case"]),
     ("play", f"{PROCESS}script = ['say 0']\n", ["`say FD TEXT`"]),
-    ("play", f"{PROCESS}script = ['signals']\n", ["signals is no item of a script: a process makes it after each item"]),
+    ("play", f"{PROCESS}script = ['signals']\n", ["signals is no item of a script: a process makes it after each"]),
     ("play", f"{PROCESS}hooks = ['10 dips 0 1']\n", ["in:3:10: ", "(code 26 at 1:1", "The hook is `10 disp FD A`"]),
     ("play", f"{PROCESS}hooks = ['10 leave', '10 leave']\n", ["(code 26 at 1:2", "Signal 10 has a hook already."]),
     ("play", f"{PROCESS}hooks = ['9 leave']\n", ["a number from 1 to 64 except 9"]),
@@ -88,7 +88,8 @@ EXPLAINED = [
     ("check", f"{OPENS}%journal 2\np2 0 exit = ok\n%end 1 64\n", ["(reason 1)", "    p2 0 exit = ok\n"]),
     ("check", f"{OPENS}{JOURNAL}p1 2 activate 0 1 = ok\n%end 4 256\n",
         ["at entry 3", "(reason 2)", "    p1 2 activate 0 1 = ok\n", "The next call of p1 is `activate 0 70`."]),
-    ("check", f"{OPENS}%journal 2\nk0 0 exit = ok\nk0 1 exit = ok\n%end 2 128\n", ["(reason 2)", "k0 makes no call there"]),
+    ("check", f"{OPENS}%journal 2\nk0 0 exit = ok\nk0 1 exit = ok\n%end 2 128\n",
+        ["(reason 2)", "k0 makes no call there"]),
     ("check", f"{OPENS}{JOURNAL}p1 2 activate 0 70 = ok\n%end 4 256\n",
         ["(reason 3)", "The machine gives `err 6` (ENXIO), and the journal has `ok`."]),
     ("check", f"turns = [1]\n{OPENS}{JOURNAL}p1 2 activate 0 70 = ok\n%end 4 256\n", ["The machine gives `err 6`"]),
@@ -100,9 +101,9 @@ EXPLAINED = [
 ]  # fmt: skip
 # Pieces of sessions to put where they don't belong.
 PIECES = [
-    "'open 01'", "'opne 1'", "'say 0'", "'exit'", "'10 leave'", "'9 nothing'", "300", "-1", "true", "'zz'", "''", " ", ",",
-    "[[process]]\n", "home = 9\n", "rows = 0\n", "hom = 1\n", "keys = '1e  9e'\n", "turns = [0, 70]\n", "consoles = []\n",
-    "more_keys = ['1e', 'x']\n", "'", '"', "[", "]", "#", "\n",
+    "'open 01'", "'opne 1'", "'say 0'", "'exit'", "'10 leave'", "'9 nothing'", "300", "-1", "true", "'zz'", "''", " ",
+    ",", "[[process]]\n", "home = 9\n", "rows = 0\n", "hom = 1\n", "keys = '1e  9e'\n", "turns = [0, 70]\n",
+    "consoles = []\n", "more_keys = ['1e', 'x']\n", "'", '"', "[", "]", "#", "\n",
 ]  # fmt: skip
 
 

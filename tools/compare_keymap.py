@@ -4,12 +4,13 @@
 usage: tools/compare_keymap.py [--vt PROGRAM] [--back] [--charset C] [--search DIR]... FILE...
 
 It prints a line for each FILE: `same`; `same except for N entries` that tools/keymap.py listed, by name, with those of
-keycodes and tables past 255, of which loadkeys prints nothing; or `different`, with the first twenty differences. --back goes the other way: loadkeys reads the dump that `vt dumpkeys` makes of the
-converted keymap, and its tables have to be those that `vt keys` lists. If loadkeys refuses a keymap, a repaired copy
-is compared, and the line names the repair. The tool doesn't take from tools/keymap.py which number of kbd is which
-action of vt: both programs read the same names, and what they make of a name is the same action. It needs loadkeys
-(Debian: apt-get install kbd), and loads nothing into a console. Status 1 means that one is different, 3 that loadkeys
-or the converter refused one, and 0 neither.
+keycodes and tables past 255, of which loadkeys prints nothing; or `different`, with the first twenty differences.
+--back goes the other way: loadkeys reads the dump that `vt dumpkeys` makes of the converted keymap, and its tables have
+to be those that `vt keys` lists. If loadkeys refuses a keymap, a repaired copy is compared, and the line names the
+repair. The tool doesn't take from tools/keymap.py which number of kbd is which action of vt: both programs read the
+same names, and what they make of a name is the same action. It needs loadkeys (Debian: apt-get install kbd), and loads
+nothing into a console. Status 1 means that one is different, 3 that loadkeys or the converter refused one, and 0
+neither.
 """
 import argparse
 import collections

@@ -287,7 +287,8 @@ def convert(name, charset="", search=(), usual=False, text=None):
     except (OSError, ValueError) as error:
         raise KeymapError(name, 0, f"can't be read: {error}") from error
     if path is None:
-        raise KeymapError(name, 0, f"there is no such keymap, neither here nor in kbd's folders{near_names(name, search)}")
+        advice = near_names(name, search)
+        raise KeymapError(name, 0, f"there is no such keymap, neither here nor in kbd's folders{advice}")
     tables = kbd_tables.compiled(kbd_text.lines_of(path, search, text), charset)
     if usual:
         with_usual(tables)

@@ -250,7 +250,8 @@ def about_journal(path, text, code, line):
 def about_illegal(program, path, text, entry, reason):
     """Gives the lines about a journal that isn't a legal one."""
     told = REASONS.get(reason, "a reason that no page has")
-    yield f"{path}: the journal isn't a legal one of the session at entry {entry}, counted from 0: {told} (reason {reason})"
+    place = f"at entry {entry}, counted from 0"
+    yield f"{path}: the journal isn't a legal one of the session {place}: {told} (reason {reason})"
     rows = text.decode("utf-8", "replace").split("\n")
     start = next((i for i, row in enumerate(rows) if row.startswith("%journal")), None)
     if start is None or reason == 6 or start + 1 + entry >= len(rows):

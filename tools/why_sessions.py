@@ -1,4 +1,4 @@
-"""Explains faults of sessions, of tables for `vt type` and of journals: the place with a mark, near words, what to write.
+"""Explains faults of sessions, tables for `vt type` and journals: the place with a mark, near words, what to write.
 
 A part of tools/why.py. TOML's reader gives no places, so the text is searched for them: a fault that isn't found there
 is explained without a place.
@@ -106,7 +106,8 @@ def about_call(item):
         return f"{name.upper()} is the call `{FORMS[call]}`." if call else none
     if name not in FORMS:
         close = [f"`{FORMS[it]}`" for it in near(name, [call for call in FORMS if call not in NOT_IN_SCRIPTS])]
-        return f"There is no call {name}: " + (f"is it {list_of(close)}?" if close else "docs/JOURNAL.md has the calls.")
+        hint = f"is it {list_of(close)}?" if close else "docs/JOURNAL.md has the calls."
+        return f"There is no call {name}: {hint}"
     wanted = FORMS[name].split()[1:]
     if name == "say":
         return "`say FD TEXT` has the descriptor, a blank, and a text, which may be empty."
@@ -182,7 +183,8 @@ def key_fault(text, table, process, _):
     known = PROCESS_KEYS if process else TOP_KEYS | TYPE_KEYS
     key = next((it for it in found if it not in known), None)
     if key is None:
-        return place_of_key(text, "mode"), "mode is a key of tables for `vt type`, which have no key of a session alone."
+        hint = "mode is a key of tables for `vt type`, which have no key of a session alone."
+        return place_of_key(text, "mode"), hint
     likely = PROCESS_KEYS if process else documents(table)[0]
     return place_of_key(text, key, start_of_process(text, process)), about_key(key, known, likely)
 
@@ -224,7 +226,8 @@ def byte_fault(text, table, keyboard, item):
     whole = table["more_keys"][keyboard - 1] if keyboard else table["keys"]
     found = whole.split(" ")[item - 1]
     told = f"{found!r} is no byte" if found else "An empty item: two blanks, or one at an end"
-    return place_of_item(text, whole, item), f"{told}. A byte is two hexadecimal digits, and one blank stands between two."
+    hint = f"{told}. A byte is two hexadecimal digits, and one blank stands between two."
+    return place_of_item(text, whole, item), hint
 
 
 def turn_fault(text, table, _, item):
@@ -232,7 +235,8 @@ def turn_fault(text, table, _, item):
     count, further = len(processes(table)), len(texts(table, "more_keys"))
     callers = ["0"] + (["1"] if count == 1 else [f"1 to {count}"] if count else [])
     callers += ["65"] if further == 1 else [f"65 to {64 + further}"] if further else []
-    return place_of_key(text, "turns"), f"Item {item} is {table['turns'][item - 1]}. The session has the callers {', '.join(callers)}."
+    hint = f"Item {item} is {table['turns'][item - 1]}. The session has the callers {', '.join(callers)}."
+    return place_of_key(text, "turns"), hint
 
 
 FAULTS = {
