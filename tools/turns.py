@@ -3,21 +3,11 @@
 
     tools/turns.py SESSION.toml > NUMBERED.toml
 
-The items of `turns` are texts; a number counts as one turn of that caller. CALLER is k0 to k3 or p1 to p64, as in a
-journal. The words of an item are:
+The items of `turns` are texts, whose words `--help` lists; a number counts as one turn of that caller.
 
-    CALLER once                one call
-    CALLER N times             N calls
-    CALLER until item N        calls up to and with item N of its script, from 1; of a keyboard, with its byte N
-    CALLER until it waits      calls until its wait is open
-    CALLER until it is over    calls until its program is over
-    all until they wait        rounds of rising callers, the further keyboards last, until each waits or is over
-    all but CALLER [CALLER ..] until they wait
-                               the same without these callers
-
-Everything except `turns` stays as it is. Words of another form are refused with this list, and so are words that no
-play reaches: `turns.py: turns 3: ..`, 3 the item. Exit status: 0 written, 1 the session or its words are refused, 2 the
-program doesn't run or Python is older than 3.11, 3 a file can't be read or written.
+Everything except `turns` stays as it is. Words of another form are refused with the list of words, and so are words
+that no play reaches: `turns.py: turns 3: ..`, 3 the item. Exit status: 0 written, 1 the session or its words are
+refused, 2 the program doesn't run or Python is older than 3.11, 3 a file can't be read or written.
 """
 import argparse
 import re
@@ -33,6 +23,17 @@ from programs import find
 from tool_files import Stop, read_file, write_file
 
 MOST_TURNS = 1_000_000
+# The words of an item, for a reader.
+WORDS = """CALLER is k0 to k3 or p1 to p64, as in a journal. The words are:
+
+    CALLER once                one call
+    CALLER N times             N calls
+    CALLER until item N        calls up to and with item N of its script, from 1; of a keyboard, with its byte N
+    CALLER until it waits      calls until its wait is open
+    CALLER until it is over    calls until its program is over
+    all until they wait        rounds of rising callers, the further keyboards last, until each waits or is over
+    all but CALLER [CALLER ..] until they wait
+                               the same without these callers"""
 CALLER = r"(k[0-3]|p[1-9][0-9]?)"
 FORMS = [
     (re.compile(rf"{CALLER} once"), "times"),
@@ -61,11 +62,6 @@ def word_of(number):
 
 def refuse(place, why):
     raise Stop(1, f"turns {place}: {why}")
-
-
-def word_list():
-    """The words that an item may have, as they stand in the text at the top of this file."""
-    return re.search(r"    CALLER once.*?(?=\n\n)", __doc__, re.S)[0]
 
 
 # The text of `turns` in the session.
@@ -295,7 +291,7 @@ def do_word(players, scripts, place, text):
         if found:
             break
     else:
-        refuse(place, f"no such words: {text}\nCALLER is k0 to k3 or p1 to p64. The words are:\n{word_list()}")
+        refuse(place, f"no such words: {text}\n{WORDS}")
     named = (found[1] or "").split()
     for caller in named:
         if caller not in scripts.items:
@@ -337,7 +333,7 @@ def numbered(program, given):
 def main():
     parser = argparse.ArgumentParser(
         description="Writes a session whose turns are words as one with numbers.",
-        epilog=f"The words of an item of turns, with CALLER k0 to k3 or p1 to p64:\n\n{word_list()}",
+        epilog=WORDS,
         formatter_class=argparse.RawDescriptionHelpFormatter,
     )
     parser.add_argument("session", help="the session, or - for standard input")
