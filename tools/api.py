@@ -7,9 +7,11 @@ usage: tools/api.py CRATE [NAME]
 
 Each part has the text of the source: the comment, the signature, and the clauses of the contract. Fields that aren't
 public are left out. With NAME, a type, a trait, a call or a constant, only this one is printed. The first lines are the
-crate's sentence, the crates that it needs, and where its clauses are in words. `--write` writes a page for each library
-into docs/library/api/, with README.md as their list, and removes pages of crates that are gone; `--check` prints a line
-for each page that isn't as it would be written. The status is 1 if there is one, or no such library or name.
+crate's sentence, the crates that it needs, and where its clauses are in words. A link of a comment leads to the heading
+of its name, on the page of the crate or of one that it needs; in code, and if no heading has the name, it is the name
+alone. `--write` writes a page for each library into docs/library/api/, with README.md as their list, and removes pages
+of crates that are gone; `--check` prints a line for each page that isn't as it would be written. The status is 1 if
+there is one, or no such library or name.
 """
 import re
 import sys
@@ -18,6 +20,7 @@ import textwrap
 sys.dont_write_bytecode = True
 
 # After the line that keeps tools/ clean.
+from check_links import slug  # noqa: E402
 from check_promises import PROOFS, TOP, exports_of, libraries, traits  # noqa: E402
 from copy_crates import lines_of, needs  # noqa: E402
 
@@ -27,6 +30,9 @@ CLAUSE = re.compile(r"\s*(?:requires|ensures)\b")
 ITEM = re.compile(r'pub (?:const )?(extern "C" )?(struct|enum|trait|type|fn|const|static) (\w+)')
 METHOD = re.compile(r"    (?:pub )?(?:const )?fn \w+")
 PUBLIC_METHOD = re.compile(r"    pub (?:const )?fn \w+")
+# A link of a comment: its words in backquotes, and the path of their item if that is another one.
+LINK = re.compile(r"\[`([^`]+)`\](?:\(([^()\s]*)\))?")
+ON_THE_WAY = ("crate", "self", "super")
 
 
 def comment_before(lines, at):
@@ -109,11 +115,49 @@ def parts_of(crate):
     return found
 
 
-def prose(comment):
-    """Gives the paragraphs of a comment, with the links of its source as names in backquotes."""
+def path_of(words):
+    """Gives the parts of a path without those that only lead upwards."""
+    return [it for it in words.split("::") if it not in ON_THE_WAY]
+
+
+def bare(link):
+    """Gives the name of a link in backquotes; a module of the crate keeps its whole path."""
+    path = path_of(link[1])
+    return f"`{link[1] if len(path) == 1 and path[0].islower() else '::'.join(path)}`"
+
+
+class Headings:
+    """The items and calls that have a heading on the page of each library."""
+
+    def __init__(self):
+        self.parts = {crate: parts_of(crate) for crate in libraries()}
+        self.names = {crate: set(self.headings(found)) for crate, found in self.parts.items()}
+
+    def headings(self, found):
+        for name, blocks in found.items():
+            yield from (name, *(f"{name}::{name_of(block)}" for block in blocks if name_of(block)))
+
+    def links_on(self, crate):
+        """Gives the function that makes a link of a comment one of the page of a crate."""
+        near = [crate, *(it for it in needs(lines_of(TOP / "crates.txt")[crate]) if it in self.names)]
+
+        def linked(link):
+            path = path_of(link[2] or link[1])
+            places = [path[0]] if path[0] in self.names and len(path) > 1 else near
+            for place in places:
+                for name in ("::".join(path[-2:]), path[-1]):
+                    if name in self.names[place]:
+                        page = "" if place == crate else f"{place}.md"
+                        return f"[`{'::'.join(path_of(link[1]))}`]({page}#{slug(name)})"
+            return bare(link)
+
+        return linked
+
+
+def prose(comment, linked=bare):
+    """Gives the paragraphs of a comment, with its links as `linked` makes them."""
     lines = [re.sub(r"^\s*//[/!] ?", "", line) for line in comment]
-    text = re.sub(r"\[(`[^`]+`)\](?:\([^()\s]*\))?", lambda it: it[1].replace("crate::", ""), "\n".join(lines))
-    text = re.sub(r"super::(?=\w)", "", text)
+    text = re.sub(r"super::(?=\w)", "", LINK.sub(linked, "\n".join(lines)))
     text = re.sub(r"\bdocs/([\w/-]*?)([\w-]+)\.md\b", r"[\2](../../\1\2.md)", text)
     wrap = {"width": WIDTH, "break_long_words": False, "break_on_hyphens": False}
     return "\n\n".join(textwrap.fill(" ".join(it.split()), **wrap) for it in text.split("\n\n") if it.strip())
@@ -126,18 +170,19 @@ def name_of(block):
     return call[1] if call else None
 
 
-def shown(block):
+def shown(block, linked):
     """Gives a block as Markdown: its comment, and its code."""
     comment = [line for line in block if line.startswith("///") or (name_of(block) and line.startswith("    ///"))]
     code = block[len(comment):]
     indent = 4 if name_of(block) else 0
-    parts = [prose(comment), "\n".join(("    " + line[indent:]).rstrip() for line in code)]
+    lines = (LINK.sub(bare, line[indent:]) if line.lstrip().startswith("///") else line[indent:] for line in code)
+    parts = [prose(comment, linked), "\n".join(("    " + line).rstrip() for line in lines)]
     return "\n\n".join(it for it in parts if it)
 
 
-def sentence_of(crate):
+def sentence_of(crate, linked=bare):
     lines = (TOP / "crates" / crate / "src/lib.rt").read_text(encoding="utf-8").splitlines()
-    return prose([line for line in lines if line.startswith("//!")])
+    return prose([line for line in lines if line.startswith("//!")], linked)
 
 
 def places_in_words():
@@ -149,31 +194,31 @@ def places_in_words():
     return found
 
 
-def page_of(crate, found, names, words):
+def page_of(crate, headings, names, words):
     """Gives the page of a crate, with the parts of these names."""
+    found, linked = headings.parts[crate], headings.links_on(crate)
     below = needs(lines_of(TOP / "crates.txt")[crate])
-    linked = ", ".join(f"[`{it}`]({it}.md)" if (TOP / "crates" / it).is_dir() else f"`{it}`" for it in below)
-    head = f"Needs {linked}." if below else "Needs no other crate."
+    needed = ", ".join(f"[`{it}`]({it}.md)" if (TOP / "crates" / it).is_dir() else f"`{it}`" for it in below)
+    head = f"Needs {needed}." if below else "Needs no other crate."
     if crate in words:
         head += f" Its clauses in words: [{words[crate][0]}](../../proofs/{words[crate][1]}#{crate})."
     wrapped = textwrap.fill(head, WIDTH, break_long_words=False, break_on_hyphens=False)
-    parts = [f"# {crate}", sentence_of(crate), wrapped]
+    parts = [f"# {crate}", sentence_of(crate, linked), wrapped]
     for name in sorted(names):
         parts.append(f"## {name}")
         for block in found[name]:
             if name_of(block):
                 parts.append(f"### {name}::{name_of(block)}")
-            parts.append(shown(block))
+            parts.append(shown(block, linked))
     return "\n\n".join(parts) + "\n"
 
 
 def all_pages():
     """Gives the text of each page of docs/library/api/ by its name."""
-    words, rows, pages = places_in_words(), [], {}
-    for crate in libraries():
-        found = parts_of(crate)
+    words, headings, rows, pages = places_in_words(), Headings(), [], {}
+    for crate, found in headings.parts.items():
         if found:
-            pages[f"{crate}.md"] = page_of(crate, found, found, words)
+            pages[f"{crate}.md"] = page_of(crate, headings, found, words)
             names = ", ".join(f"`{it}`" for it in sorted(found))
             rows.append(f"| [`{crate}`]({crate}.md) | {' '.join(sentence_of(crate).split())} | {names} |")
     pages["README.md"] = "\n".join([
@@ -220,12 +265,12 @@ def main():
     if crate not in libraries():
         print(f"api.py: crates.txt has no library {crate}", file=sys.stderr)
         return 1
-    found = parts_of(crate)
-    names = words[1:] or list(found)
-    if any(name not in found for name in names):
+    headings = Headings()
+    names = words[1:] or list(headings.parts[crate])
+    if any(name not in headings.parts[crate] for name in names):
         print(f"api.py: {crate} has no public {words[1]}", file=sys.stderr)
         return 1
-    print(page_of(crate, found, names, places_in_words()), end="")
+    print(page_of(crate, headings, names, places_in_words()), end="")
     return 0
 
 

@@ -1,5 +1,5 @@
 #!/usr/bin/env python3
-"""Checks that keymaps of kbd come in: tools/keymap.py on examples/keymaps and on damaged keymaps, and tools/why.py.
+"""Checks that keymaps of kbd come in: tools/keymap.py on examples/keymaps and on damaged keymaps.
 
 usage: tools/check_keymaps.py [--vt PROGRAM] [COUNT]
 
@@ -9,7 +9,7 @@ usage: tools/check_keymaps.py [--vt PROGRAM] [COUNT]
   run as a program, ends with status 0 or 1 on some of them, and no run prints a traceback.
 - Each entry that is lost is listed, and --strict refuses the keymap; a file that can't be read is refused with a
   reason.
-- tools/why.py explains lines of vt, and docs/guide/bring-your-keymap.md shows what its commands print.
+- docs/guide/bring-your-keymap.md shows what its commands print.
 
 It needs neither kbd nor its keymaps. Prints a line for each fault and last 'N passed, M failed'; status 1 if one fails.
 """
@@ -49,24 +49,6 @@ PIECES = [
     b"dead_macron ",
 ]  # fmt: skip
 
-# What vt writes on err for a keymap, and what tools/why.py has to say about it: parts of its lines.
-EXPLAINED = [
-    (
-        "keymaps 0-2\n\tkeycode 31 = +aogonek\n",
-        ["keymap:2:15: an unknown symbol", "\t             ^^^^^^^^", "U+0105", "+U+0105"],
-    ),
-    ("keycode 30 = Hex_1\n", ["VoidSymbol", "Ascii_0"]),
-    ("keycode 30 = pound\n", ["sterling"]),
-    ("keycode 30 = 0x0305\n", ["KP_5"]),
-    ("keycode 30 = escape\n", ["Is it Escape?"]),
-    ("keycode 30 = \u00e4\n", ["U+00E4"]),
-    ("keycode 30=a\n", ["30 = a"]),
-    ("keycode 0 = a\n", ["No key has keycode 0"]),
-    ('include "pc"\n', ["tools/keymap.py"]),
-    ("capsshift keycode 3 = a\n", ["vt has eight"]),
-    ("keycode 30 = a\nkeymaps 0\n", ["put all keymaps lines in front"]),
-]
-
 # Keymaps, and the entries that vt lists of the converted ones, as loadkeys makes them: table, keycode, kind, value.
 MADE = [
     ("keymaps 0-1\nkeycode 3 = U+FDFC U+00FF\n", "0 3 1 65020, 1 3 1 255"),
@@ -88,11 +70,18 @@ MADE = [
 LOST = [
     ("keycode 30 = Hex_1\n", ["-:1: Hex_1: vt has decimal digits alone", "keycode 30, table 0"]),
     ("keymaps 0-1\n\nkeycode 30 = a dead_macron\n", ["-:3: dead_macron: ", "keycode 30, table 1"]),
-    ("keycode 0 = a\nkeycode 1 = b\n", ["-:1: keycode 0: "]),
+    ("keycode 0 = a\nkeycode 1 = b\n", ["-:1: keycode 0: ", "keymap.py: 1 of 2 entries differ in vt: keycode 0 1\n"]),
+    (
+        "keymaps 0-1,300\nkeycode 1 = a b c\nkeycode 300 = d e f\n",
+        ["4 of 6 entries differ in vt: ", "keycodes past 255 2", "tables past 255 2"],
+    ),
     ("keycode 1 = KP_MinPlus\n", ["types ? for it"]),
     ("keycode 1 = 0x0e04\n", ["braille"]),
-    ('keycode 1 = a\nstring F1 = "' + "x" * 256 + '"\n', ["a string of 256 bytes"]),
-    ("keycode 1 = a\n" + "compose 'a' 'b' to 'c'\n" * 257, ["-:258: 'a' 'b' to 'c': pair 257, and vt takes 256"]),
+    ('keycode 1 = a\nstring F1 = "' + "x" * 256 + '"\n', ["a string of 256 bytes", "keymap.py: 1 string\n"]),
+    (
+        "keycode 1 = a\n" + "compose 'a' 'b' to 'c'\n" * 258,
+        ["-:258: 'a' 'b' to 'c': pair 257, and vt takes 256", "keymap.py: 2 compose pairs\n"],
+    ),
     ('charset "iso-8859-1"\nkeycode 1 = euro\n', ["-:2: euro: ", "another character"]),
 ]
 
@@ -232,7 +221,10 @@ def refused_faults():
         (place / "parts").mkdir()
         (place / "parts/letters.inc.gz").write_bytes(gzip.compress(b"keycode 30 = a\n"))
         (place / "whole.map").write_text('keymaps 0\ninclude "letters"\n')
+        (place / "parts/zork-latin1.kmap").write_text("keycode 30 = a\n")
         for words, part in [
+            (["--search", place / "parts", "zork-latin"], "is it zork-latin1"),
+            (["--search", place / "parts", "qqqqqqqq"], "none with a name like it"),
             ([place / "loop.map"], "deep"),
             ([place / "torn.map.gz"], "can't be read"),
             ([place / "none.map"], "there is no such keymap"),
@@ -266,23 +258,6 @@ def name_faults():
             ) == action else f"{name}: made {keymap.action_of(number)}, and it is {action}"
 
 
-def why_faults(program):
-    """Gives a fault, or None, for each line of vt that tools/why.py explains."""
-    with tempfile.TemporaryDirectory() as folder:
-        path = pathlib.Path(folder) / "keymap"
-        for text, parts in EXPLAINED:
-            path.write_text(text, encoding="utf-8")
-            err = subprocess.run(
-                [program, "keys"], input=text.encode(), capture_output=True, timeout=SECONDS, check=False
-            ).stderr
-            ran = subprocess.run(
-                [sys.executable, TOOLS / "why.py", path], input=err, capture_output=True, timeout=SECONDS, check=False
-            )
-            told = ran.stdout.decode()
-            missing = [part for part in parts if part not in told]
-            yield f"why.py: {text!r}: no {missing} in {told!r} {ran.stderr!r}" if missing or ran.returncode else None
-
-
 def page_faults():
     """Gives a fault for each command of the guide that prints something else."""
     yield None
@@ -302,7 +277,6 @@ def main():
         made_faults(asked.vt),
         lost_faults(),
         refused_faults(),
-        why_faults(asked.vt),
         page_faults(),
     ]
     groups += [program_faults(asked.count // 20), damage_faults(asked.vt, asked.count)]

@@ -4,8 +4,11 @@
 In README.md, the pages of docs/ and those of examples/ each indented line `$ COMMAND` is run from the top of the
 repository, with the programs that tools/programs.py finds, and the indented lines after it have to be what it prints; a
 line `..` stands for any lines. So is each line `$ COMMAND` of an example in man/; the examples of a session and of a
-keymap there have to be accepted, and each command of vt(1) has an example. docs/codes.md has a row for each code of tools/why.py. The adapter of
-docs/guide/write-a-terminal.md answers a case. The lines of a journal that docs/guide/tour.md quotes have to stand in
+keymap there have to be accepted, and each command of vt(1) has an example. docs/codes.md has a row for each code of
+tools/why.py. The words of tools/session_words.py are those of the tables of docs/JOURNAL.md, docs/SESSIONS.md and
+docs/TYPING.md; its requests of ioctl_console(2), with their calls, are the rows of docs/COMPATIBILITY.md,
+docs/SWITCHING.md and docs/JOURNAL.md name the same calls for them, and vt-journal(5) lists those without. The adapter
+of docs/guide/write-a-terminal.md answers a case. The lines of a journal that docs/guide/tour.md quotes have to stand in
 examples/tour.journal, in the same order. docs/guide/test-a-terminal-program.md is run by
 tools/check_expect.py, the programs of docs/guide/embed-a-crate.md by tools/check_snippets.py, and docs/library/c.md by
 tools/check_c.py. Prints a line for each difference. The status is 1 if there is one, and 2 if a program isn't built.
@@ -18,7 +21,11 @@ import subprocess
 import sys
 import textwrap
 
-from programs import find_for_check, search_path
+sys.dont_write_bytecode = True
+
+# After the line that keeps tools/ clean.
+import session_words  # noqa: E402
+from programs import find_for_check, search_path  # noqa: E402
 
 TOP = pathlib.Path(__file__).resolve().parent.parent
 SECONDS = 60
@@ -127,6 +134,53 @@ def code_faults():
         yield f"codes.md: code {code} has no row"
 
 
+def rows_of(page, heading):
+    """Gives the rows of the tables under a heading of a page, each as its cells."""
+    text = (TOP / "docs" / page).read_text(encoding="utf-8")
+    part = re.search(rf"^(#+) {re.escape(heading)}\n((?:(?!#+ ).*\n)*)", text, re.M)
+    for line in re.findall(r"^\|(.*)\|$", part[2] if part else "", re.M):
+        cells = [it.strip() for it in line.split(" | ")]
+        if not set(cells[0]) <= set("- |"):
+            yield cells
+
+
+def request_faults():
+    """Gives a fault for each request of ioctl_console(2) that a page lacks, or has for another call."""
+    wanted = [[name, f"`{call}`" if call else "none"] for name, call in session_words.REQUESTS.items()]
+    found = [cells[:2] for cells in rows_of("COMPATIBILITY.md", "The requests of ioctl_console(2)")][1:]
+    for name, call in wanted:
+        if [name, call] not in found:
+            yield f"COMPATIBILITY.md: no row of {name} with {call}"
+    if [name for name, _ in found] != list(session_words.REQUESTS):
+        yield "COMPATIBILITY.md: the requests aren't those of ioctl_console(2), in its order"
+    for page, heading in [("SWITCHING.md", "The table of calls"), ("JOURNAL.md", "The words of calls")]:
+        named = {}
+        for first, *others in rows_of(page, heading):
+            requests = re.findall(r"\b(?:KD|VT_(?!AUTO|PROCESS)|[GP]IO_)[A-Z]+\b", " ".join([first, *others[:1]]))
+            named.update(zip(requests, re.findall(r"`([a-z]+)[^`]*`", first)))
+        for name, call in session_words.REQUESTS.items():
+            if call != named.get(name, call) or (call and name not in named and name != "KDGKBDIACR"):
+                yield f"{page}: {name} is {named.get(name)} there, and {call}"
+    manual = (TOP / "man/vt-journal.5").read_text(encoding="utf-8").split("have no call:")[-1]
+    if re.findall(r"[A-Z_]+", manual) != [name for name, call in session_words.REQUESTS.items() if not call]:
+        yield "vt-journal.5: the requests without a call are others"
+
+
+def word_faults():
+    """Gives a fault for each list of words that isn't that of its page."""
+    rows = rows_of("JOURNAL.md", "The words of calls")
+    calls = [form for first, *_ in rows for form in re.findall("`([^`]+)`", first)]
+    tables = [cells[1] for cells in rows_of("SESSIONS.md", "The table") if cells[0].isdigit()]
+    typing = [cells[0].strip("`") for cells in rows_of("TYPING.md", "`vt type`") if cells[1].isdigit()]
+    for name, found, wanted in [
+        ("JOURNAL.md: calls", calls, session_words.CALLS),
+        ("SESSIONS.md: keys", tables, [*session_words.TOP_KEYS, *session_words.PROCESS_KEYS]),
+        ("TYPING.md: keys", typing, session_words.TYPE_KEYS),
+    ]:
+        if sorted(found) != sorted(wanted):
+            yield f"{name} aren't those of tools/session_words.py: {sorted(set(found) ^ set(wanted))}"
+
+
 def main():
     find_for_check("vt"), find_for_check("watch")
     pages = [TOP / "README.md", *sorted((TOP / "docs").rglob("*.md")), *sorted((TOP / "examples").glob("*/README.md"))]
@@ -134,7 +188,7 @@ def main():
     manuals = sorted((TOP / "man").glob("*"))
     faults = [fault for page in pages for fault in page_faults(page)]
     faults += [fault for page in manuals for fault in manual_faults(page)] + list(tour_faults())
-    faults += [*command_faults(TOP / "man/vt.1"), *code_faults()]
+    faults += [*command_faults(TOP / "man/vt.1"), *code_faults(), *request_faults(), *word_faults()]
     faults += adapter_faults(TOP / "docs/guide/write-a-terminal.md")
     for fault in faults:
         print(fault)

@@ -3,8 +3,9 @@
 
 Each session is played and has to print its journal, and that has to be a legal one. Each `.words` file has to become
 its session by tools/turns.py, which has to refuse words that no play reaches, with the item's number, and a Python that
-has no reader of TOML. The lines of a journal that the guide quotes have to stand in the journal of the session named
-before them, in the same order. Prints a line for each fault, and ends with status 1 if there is one.
+has no reader of TOML. Words of another form are refused with the list of the words, which is that of docs/SESSIONS.md.
+The lines of a journal that the guide quotes have to stand in the journal of the session named before them, in the same
+order. Prints a line for each fault, and ends with status 1 if there is one.
 """
 import pathlib
 import re
@@ -18,6 +19,7 @@ from programs import find_for_check  # noqa: E402: after the line that keeps too
 TOP = pathlib.Path(__file__).resolve().parent.parent
 FOLDER = TOP / "examples/switches"
 GUIDE = TOP / "docs/guide/display-server.md"
+SESSIONS = TOP / "docs/SESSIONS.md"
 PROCESSES = """
 [[process]]
 home = 1
@@ -40,7 +42,6 @@ WORDS = [
     ('["p2 until it waits"]', "turns 1: p2 is over after 5 calls, and doesn't begin a wait"),
     ('["p1 until it is over"]', "turns 1: p1 waits after 3 calls, so it isn't over"),
     ('["p3 once"]', "turns 1: the session has no p3"),
-    ('["p1 twice"]', "turns 1: no such words: p1 twice"),
     ("[9]", "turns 1: neither a text nor the number of a caller"),
 ]
 
@@ -82,6 +83,24 @@ def turns_faults():
             yield f"turns = {words} gives {(printed or message).split(chr(10) + '[[')[0].strip()}, not {wanted}"
 
 
+def listed_words(text, form):
+    """The words of `turns` in a list, with one spelling for what may be repeated."""
+    return [re.sub(r" \[CALLER \.\.\]| \.\.", "", words).strip() for words in re.findall(form, text, re.M)]
+
+
+def word_list_faults():
+    """Words of no form are refused with the words that there are, and those are the words of the page."""
+    page = listed_words(SESSIONS.read_text(encoding="utf-8"), r"^\| `((?:CALLER|all) [^`]*)` \|")
+    given = f'turns = ["p1 once", "p1 twice"]\n{PROCESSES}'.encode()
+    for word in ("-", "--help"):
+        status, printed, message = run([TOP / "tools/turns.py", "--vt", find_for_check("vt"), word], given)
+        named = listed_words(printed + message, r"^    ((?:CALLER|all) .*?)(?:  .*)?$")
+        if named != page or len(page) < 7:
+            yield f"turns.py {word} has the words {named}, and {SESSIONS.name} {page}"
+        if word == "-" and (status, message.split("\n")[0]) != (1, "turns.py: turns 2: no such words: p1 twice"):
+            yield f"words of no form are refused otherwise: {message}"
+
+
 def old_python_faults():
     """A Python under 3.11 has no module tomllib."""
     script = f"import runpy, sys; sys.path.insert(0, {str(TOP / 'tools')!r}); sys.modules['tomllib'] = None; "
@@ -110,7 +129,7 @@ def quote_faults():
 
 def main():
     faults = [fault for path in sorted(FOLDER.glob("*.toml")) for fault in session_faults(path)]
-    faults += [*turns_faults(), *old_python_faults(), *quote_faults()]
+    faults += [*turns_faults(), *word_list_faults(), *old_python_faults(), *quote_faults()]
     for fault in faults:
         print(fault)
     return 1 if faults else 0

@@ -3,13 +3,14 @@
 
 usage: tools/compare_keymap.py [--vt PROGRAM] [--back] [--charset C] [--search DIR]... FILE...
 
-It prints a line for each FILE: `same`; `same except for N entries` that tools/keymap.py listed, by name; or `different`,
-with the first twenty differences. --back goes the other way: loadkeys reads the dump that `vt dumpkeys` makes of the
-converted keymap, and its tables have to be those that `vt keys` lists. If loadkeys refuses a keymap, a repaired copy
-is compared, and the line names the repair. The tool doesn't take from tools/keymap.py which number of kbd is which
-action of vt: both programs read the same names, and what they make of a name is the same action. It needs loadkeys
-(Debian: apt-get install kbd), and loads nothing into a console. Status 1 means that one is different, 3 that loadkeys
-or the converter refused one, and 0 neither.
+It prints a line for each FILE: `same`; `same except for N entries` that tools/keymap.py listed, by name, with those of
+keycodes and tables past 255, of which loadkeys prints nothing; or `different`, with the first twenty differences.
+--back goes the other way: loadkeys reads the dump that `vt dumpkeys` makes of the converted keymap, and its tables have
+to be those that `vt keys` lists. If loadkeys refuses a keymap, a repaired copy is compared, and the line names the
+repair. The tool doesn't take from tools/keymap.py which number of kbd is which action of vt: both programs read the
+same names, and what they make of a name is the same action. It needs loadkeys (Debian: apt-get install kbd), and loads
+nothing into a console. Status 1 means that one is different, 3 that loadkeys or the converter refused one, and 0
+neither.
 """
 import argparse
 import collections
@@ -199,10 +200,15 @@ def judged_tables(path, text):
     raise first
 
 
+def is_past_kbd(entry):
+    """Whether an entry is one of a keycode or a table past those that loadkeys prints."""
+    return isinstance(entry[0], int) and (entry[0] >= keymap.TABLES or entry[1] >= keymap.KEYS)
+
+
 def names_lost(losses, lost):
-    """Returns the names of the entries that were lost, with their numbers."""
+    """Returns the names of the entries that were lost, or their groups, with their numbers."""
     names = {loss.entry: loss.name for loss in losses}
-    return collections.Counter(names[entry] for entry in lost)
+    return collections.Counter(keymap.group_of(names[entry]) for entry in lost)
 
 
 def converted_keymap(name, charset, search):
@@ -225,6 +231,7 @@ def compare(program, actions, name, charset="", search=()):
         actions = actions | {number: (1, number + 0x1000) for number in range(0xE000, 0xF000)}
     listed = {loss.entry for loss in converted.losses}
     lost, lines = differences(theirs, vt_tables_of(program, converted.text), actions, listed)
+    lost |= {entry for entry in listed if is_past_kbd(entry)}
     note = f" (loadkeys took it {repair})" if repair else ""
     if lines:
         return different(lines, note, converted)

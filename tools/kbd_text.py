@@ -5,6 +5,7 @@ Latin-1, so that each byte is one character; the character set decides later wha
 """
 import bz2
 import collections
+import difflib
 import gzip
 import lzma
 import os
@@ -125,6 +126,19 @@ def included_path(name, path, search):
         if found:
             return found
     return None
+
+
+def near(name, names):
+    """Returns the names that are spelled almost like one."""
+    same = [other for other in names if other.lower() == name.lower()]
+    return same or difflib.get_close_matches(name, names, 3, 0.75)
+
+
+def keymap_names(search):
+    """Returns the names of all keymaps in kbd's folders, and in the folders given."""
+    files = (file for folder in [*search, *FOLDERS] for file in pathlib.Path(folder).glob("**/*"))
+    found = (re.fullmatch(r"(.+)\.k?map(?:\.gz|\.bz2|\.xz)?", file.name) for file in files)
+    return sorted({file[1] for file in found if file})
 
 
 def keymap_path(name, search):

@@ -8,7 +8,9 @@ input. The tables are those that loadkeys makes of it in Unicode, written as one
 action for a symbol, VoidSymbol stands in its place, and a line on err lists it with its file, its line and its name;
 --strict refuses such a keymap. --charset reads the keymap as if a charset line were its first line, --search looks
 for included files in a folder first, and --usual adds the strings and the compose pairs that a console starts with,
-if the keymap has none. Status 0 means that the keymap was converted, 1 that it was refused.
+if the keymap has none. The last line on err counts the entries that differ, of all actions that the keymap gives a
+keycode in a table, and apart from these the strings and compose pairs. Status 0 means that the keymap was converted, 1
+that it was refused.
 """
 import argparse
 import collections
@@ -59,7 +61,13 @@ REASONS = {
 }
 
 # Names that are counted together.
-GROUPS = {"Hex_[0-9A-F]": "Hex_0 to Hex_F", r"Brl_\w+": "Brl_blank to Brl_dot10", r"Meta_\w+": "Meta_ past ASCII"}
+GROUPS = {
+    "Hex_[0-9A-F]": "Hex_0 to Hex_F",
+    r"Brl_\w+": "Brl_blank to Brl_dot10",
+    r"Meta_\w+": "Meta_ past ASCII",
+    r"keycode [1-9]\d*": "keycodes past 255",
+    r"table \d+": "tables past 255",
+}
 
 Loss = collections.namedtuple("Loss", "place name reason entry")
 Converted = collections.namedtuple("Converted", "text losses notes entries")
@@ -185,7 +193,6 @@ class Converter:
 
     def action(self, entry, table, code):
         """Returns vt's action of an entry; what has none is listed."""
-        self.entries += entry.action != kbd_tables.HOLE
         if entry.action in NEAR:
             self.lose(
                 entry.place, entry.name, f"vt has no such key, and types {NEAR[entry.action]} for it", (table, code)
@@ -202,6 +209,7 @@ class Converter:
         """Returns vt's action of each entry by table and keycode."""
         found = {}
         for table, entries in sorted(self.tables.maps.items()):
+            self.entries += sum(entry.action != kbd_tables.HOLE for entry in entries.values())
             for code, entry in sorted(entries.items()):
                 if entry.action != kbd_tables.HOLE and (table >= TABLES or not 0 < code < KEYS):
                     beyond, why = ("table", "tables 0") if table >= TABLES else ("keycode", "keycodes 1")
@@ -263,6 +271,15 @@ def with_usual(tables):
         tables.pairs += [kbd_tables.Pair(*pair, tables.place, "", "") for pair in kbd_tables.usual_pairs()]
 
 
+def near_names(name, search):
+    """Returns what to write in place of the name of a keymap that isn't there."""
+    names = kbd_text.keymap_names(search)
+    if not names:
+        return f" ({', '.join(kbd_text.FOLDERS)}), which have none: Debian's console-data has them"
+    near = kbd_text.near(name, names)
+    return f": is it {' or '.join(near)}?" if near else f", which have {len(names)}, none with a name like it"
+
+
 def convert(name, charset="", search=(), usual=False, text=None):
     """Returns a keymap in vt's profile with what was lost, or raises KeymapError."""
     try:
@@ -270,7 +287,8 @@ def convert(name, charset="", search=(), usual=False, text=None):
     except (OSError, ValueError) as error:
         raise KeymapError(name, 0, f"can't be read: {error}") from error
     if path is None:
-        raise KeymapError(name, 0, "there is no such keymap, neither here nor in kbd's folders")
+        advice = near_names(name, search)
+        raise KeymapError(name, 0, f"there is no such keymap, neither here nor in kbd's folders{advice}")
     tables = kbd_tables.compiled(kbd_text.lines_of(path, search, text), charset)
     if usual:
         with_usual(tables)
@@ -308,13 +326,21 @@ def group_of(name):
     return name
 
 
+def totals(converted):
+    """Returns the last line on err: how many entries differ, by name, and how many strings and pairs, or nothing."""
+    entries = [loss for loss in converted.losses if isinstance(loss.entry[0], int)]
+    counts = collections.Counter(group_of(loss.name) for loss in entries)
+    names = ", ".join(f"{name} {count}" for name, count in counts.most_common())
+    parts = [f"{len(entries)} of {converted.entries} entries differ in vt: {names}"] if entries else []
+    strings = sum(loss.entry[0] == "string" for loss in converted.losses)
+    for count, what in [(strings, "strings"), (len(converted.losses) - len(entries) - strings, "compose pairs")]:
+        parts += [f"{count} {what if count > 1 else what[:-1]}"] if count else []
+    return [f"keymap.py: {'; '.join(parts)}"] if parts else []
+
+
 def report(converted):
     """Returns the lines on err: what was lost, notes, and the numbers by name."""
-    lines = [*losses_by_line(converted.losses), *converted.notes]
-    counts = collections.Counter(group_of(loss.name) for loss in converted.losses)
-    if counts:
-        names = ", ".join(f"{name} {count}" for name, count in counts.most_common())
-        lines.append(f"keymap.py: {sum(counts.values())} of {converted.entries} entries differ in vt: {names}")
+    lines = [*losses_by_line(converted.losses), *converted.notes, *totals(converted)]
     return "".join(line + "\n" for line in lines)
 
 

@@ -3,20 +3,11 @@
 
     tools/turns.py SESSION.toml > NUMBERED.toml
 
-The items of `turns` are texts; a number counts as one turn of that caller. CALLER is k0 to k3 or p1 to p64, as in a
-journal:
+The items of `turns` are texts, whose words `--help` lists; a number counts as one turn of that caller.
 
-    CALLER once                one call
-    CALLER N times             N calls
-    CALLER until item N        calls up to and with item N of its script, from 1; of a keyboard, with its byte N
-    CALLER until it waits      calls until its wait is open
-    CALLER until it is over    calls until its program is over
-    all until they wait        rounds of rising callers, the further keyboards last, until each waits or is over
-    all but CALLER [CALLER ..] until they wait
-
-Everything but `turns` stays as it is. Words that no play reaches are refused: `turns.py: turns 3: ..`, 3 the item.
-Exit status: 0 written, 1 the session or its words are refused, 2 the program doesn't run or Python is older than 3.11,
-3 a file can't be read or written.
+Everything except `turns` stays as it is. Words of another form are refused with the list of words, and so are words
+that no play reaches: `turns.py: turns 3: ..`, 3 the item. Exit status: 0 written, 1 the session or its words are
+refused, 2 the program doesn't run or Python is older than 3.11, 3 a file can't be read or written.
 """
 import argparse
 import re
@@ -32,6 +23,17 @@ from programs import find
 from tool_files import Stop, read_file, write_file
 
 MOST_TURNS = 1_000_000
+# The words of an item, for a reader.
+WORDS = """CALLER is k0 to k3 or p1 to p64, as in a journal. The words are:
+
+    CALLER once                one call
+    CALLER N times             N calls
+    CALLER until item N        calls up to and with item N of its script, from 1; of a keyboard, with its byte N
+    CALLER until it waits      calls until its wait is open
+    CALLER until it is over    calls until its program is over
+    all until they wait        rounds of rising callers, the further keyboards last, until each waits or is over
+    all but CALLER [CALLER ..] until they wait
+                               the same without these callers"""
 CALLER = r"(k[0-3]|p[1-9][0-9]?)"
 FORMS = [
     (re.compile(rf"{CALLER} once"), "times"),
@@ -289,7 +291,7 @@ def do_word(players, scripts, place, text):
         if found:
             break
     else:
-        refuse(place, f"no such words: {text}")
+        refuse(place, f"no such words: {text}\n{WORDS}")
     named = (found[1] or "").split()
     for caller in named:
         if caller not in scripts.items:
@@ -329,7 +331,11 @@ def numbered(program, given):
 
 
 def main():
-    parser = argparse.ArgumentParser(description="Writes a session whose turns are words as one with numbers.")
+    parser = argparse.ArgumentParser(
+        description="Writes a session whose turns are words as one with numbers.",
+        epilog=WORDS,
+        formatter_class=argparse.RawDescriptionHelpFormatter,
+    )
     parser.add_argument("session", help="the session, or - for standard input")
     parser.add_argument("-o", "--output", help="where the session is written; standard output without it")
     parser.add_argument("--vt", metavar="PATH", help="the program vt; the one that tools/programs.py finds without it")

@@ -1,14 +1,15 @@
 #!/usr/bin/env python3
 """Explains the line that vt writes on err: the place in the input with a mark, what the code means, and what to do.
 
-usage: vt keys < FILE 2>&1 > /dev/null | tools/why.py FILE
+usage: vt keys < FILE 2>&1 > /dev/null | tools/why.py [--vt PROGRAM] FILE
 
 It reads vt's standard error on its own standard input, and FILE is the input that vt read. It knows the codes of
 keymaps, of sessions and tables in TOML, and of journals, and the reasons of `check`. For an unknown symbol it prints
-what kbd has under that name and how to write it for vt. Status 0 means that it explained a line of vt, 1 that it
-found none, 2 that FILE can't be read.
+what kbd has under that name and how to write it for vt; for a word of a session that isn't known, the words like it;
+for a journal whose answer or call is wrong, the right one, by a play of the session (tools/programs.py finds vt).
+Status 0 means that it explained a line of vt, 1 that it found none, 2 that FILE can't be read.
 """
-import difflib
+import argparse
 import re
 import sys
 
@@ -19,7 +20,8 @@ except ModuleNotFoundError:
 
 import kbd_tables
 import keymap
-from kbd_text import KeymapError
+import why_sessions
+from kbd_text import KeymapError, near
 from vt_names import ACTIONS
 
 KEYMAP_CODES = {
@@ -60,7 +62,7 @@ JOURNAL_CODES = {
 REASONS = {
     1: "its caller isn't one of the session, or its count isn't the number of the caller's calls before",
     2: "its call isn't the next one of its caller's program",
-    3: "its answer isn't the one that the console gives there",
+    3: "its answer isn't the one that the machine gives there",
     4: "at the end, a program isn't over",
     5: "the journal is past a limit of the session, or its last line has other numbers",
     6: "the certificate is not accepted at this item",
@@ -73,8 +75,6 @@ STATUSES = {
     "input too long": "screen reads 67,108,864 bytes, and every other command 16,777,216",
     "journal full": "a call found no room in the journal: the session's keys events and bytes set the room",
 }
-TOP_KEYS = "rows cols consoles front events bytes include keymap keys turns process more_keys".split()
-TYPE_KEYS = "mode include keymap keys".split()
 
 
 def word_at(line, column):
@@ -98,12 +98,6 @@ def marked(text, line, column):
     blanks = "".join("\t" if c == "\t" else " " for c in front)
     yield "    " + printable(shown)
     yield "    " + blanks + "^" * max(1, len(word_at(shown, column)))
-
-
-def near(name, names):
-    """Returns the names that are spelled almost like one."""
-    same = [other for other in names if other.lower() == name.lower()]
-    return same or difflib.get_close_matches(name, names, 3, 0.75)
 
 
 def about_action(name, number):
@@ -220,31 +214,28 @@ def about_keymap(path, text, code, line, column):
 
 
 def about_table(path, text, code, first, second):
-    """Gives the lines about a fault of a session or of a table for `vt type`."""
-    yield f"{path}: {TABLE_CODES[code]} (code {code} at {first}:{second})"
+    """Gives the lines about a fault of a session, which a journal may follow, or of a table for `vt type`."""
+    document = re.split("^%journal [12]$", text.decode("utf-8", "replace"), maxsplit=1, flags=re.M)[0]
+    if code == 24:
+        yield from about_inner_keymap(path, document, first, second)
+    elif code == 20:
+        yield from why_sessions.about_document(path, document, TABLE_CODES[code])
+    else:
+        yield from why_sessions.about_fault(path, document, TABLE_CODES[code], code, first, second)
+
+
+def about_inner_keymap(path, document, line, column):
+    """Gives the lines about a fault of the keymap that stands in a session or a table."""
+    yield f"{path}: {TABLE_CODES[24]} (code 24 at {line}:{column})"
     try:
-        table = tomllib.loads(text.decode())
-    except (ValueError, RecursionError) as error:
-        if code == 20:
-            yield f"Python's reader of TOML 1.0 has this to say: {error}"
+        given = tomllib.loads(document)["keymap"].encode()
+    except (ValueError, RecursionError, LookupError, AttributeError):
         return
-    if code == 24 and isinstance(table.get("keymap"), str):
-        given = table["keymap"].encode()
-        lines = given.split(b"\n")
-        yield f"In the text of keymap, line {first}, column {second}:"
-        yield from marked(given, first, second)
-        word = word_at(lines[first - 1] if first <= len(lines) else b"", second)
-        yield f"If this is where a symbol stands: {about_symbol(word)}"
-    elif code in (22, 23, 29) and first == 0:
-        keys = TOP_KEYS if set(table) - set(TYPE_KEYS) or "mode" not in table else TYPE_KEYS
-        yield f"The key is {keys[second - 1]}." if 0 < second <= len(keys) else ""
-    elif code in (21, 22, 23, 25, 26, 29) and first:
-        yield f"It is in process {first}" + (
-            f", item {second}." if code in (25, 26) else "." if code == 21 else f", key {second}."
-        )
-    elif code == 27 and isinstance(table.get("keys"), str):
-        items = table["keys"].split(" ")
-        yield f"Item {second} of keys is {items[second - 1]!r}." if 0 < second <= len(items) else ""
+    lines = given.split(b"\n")
+    yield f"In the text of keymap, line {line}, column {column}:"
+    yield from marked(given, line, column)
+    word = word_at(lines[line - 1] if line <= len(lines) else b"", column)
+    yield f"If this is where a symbol stands: {about_symbol(word)}"
 
 
 def about_journal(path, text, code, line):
@@ -256,17 +247,22 @@ def about_journal(path, text, code, line):
         yield from marked(text, start + line, 1)
 
 
-def about_illegal(path, text, entry, reason):
+def about_illegal(program, path, text, entry, reason):
     """Gives the lines about a journal that isn't a legal one."""
     told = REASONS.get(reason, "a reason that no page has")
-    yield f"{path}: the journal isn't a legal one of the session at entry {entry}, counted from 0: {told}"
-    rows = text.split(b"\n")
-    start = next((i for i, row in enumerate(rows) if row.startswith(b"%journal")), None)
-    if start is not None and reason != 6 and start + 1 + entry < len(rows):
-        yield "    " + printable(rows[start + 1 + entry])
+    place = f"at entry {entry}, counted from 0"
+    yield f"{path}: the journal isn't a legal one of the session {place}: {told} (reason {reason})"
+    rows = text.decode("utf-8", "replace").split("\n")
+    start = next((i for i, row in enumerate(rows) if row.startswith("%journal")), None)
+    if start is None or reason == 6 or start + 1 + entry >= len(rows):
+        return
+    yield "    " + printable(rows[start + 1 + entry].encode())
+    if reason in (2, 3):
+        session = "".join(row + "\n" for row in rows[:start])
+        yield from why_sessions.right_entry(program, session, rows[start + 1 :], entry)
 
 
-def explained(path, text, err):
+def explained(program, path, text, err):
     """Gives the lines for the first line of vt on err, or nothing."""
     found = re.search(
         r"^vt: (?:refused (\d{1,3}) at (\d{1,10}):(\d{1,10})|illegal (\d{1,10}) (\d{1,3})|(.*))$", err, re.M
@@ -281,22 +277,25 @@ def explained(path, text, err):
     elif code in JOURNAL_CODES:
         yield from about_journal(path, text, code, line)
     elif found[4]:
-        yield from about_illegal(path, text, entry, reason)
+        yield from about_illegal(program, path, text, entry, reason)
     else:
         told = [meaning for status, meaning in STATUSES.items() if (found[6] or "").startswith(status)]
         yield f"{path}: {told[0]}" if told else f"{path}: vt wrote a line that no page names: {found[0]}"
 
 
 def main():
-    if len(sys.argv) != 2 or sys.argv[1].startswith("-"):
-        sys.stderr.write("usage: vt COMMAND < FILE 2>&1 > /dev/null | tools/why.py FILE\n")
-        return 2
-    path = sys.argv[1]
+    parser = argparse.ArgumentParser(
+        usage="vt COMMAND < FILE 2>&1 > /dev/null | tools/why.py [--vt PROGRAM] FILE",
+        description="Explains the line that vt writes on standard error.",
+    )
+    parser.add_argument("file", metavar="FILE", help="the input that vt read")
+    parser.add_argument("--vt", metavar="PROGRAM", help="the program vt, which plays a session")
+    asked = parser.parse_args()
     try:
-        with open(path, "rb") as file:
+        with open(asked.file, "rb") as file:
             text = file.read()
         err = sys.stdin.buffer.read().decode("utf-8", "replace")
-        lines = [line for line in explained(path, text, err) if line]
+        lines = [line for line in explained(asked.vt, asked.file, text, err) if line]
         sys.stdout.buffer.write(
             "".join(line + "\n" for line in lines or ["No line of vt stands on err."]).encode("utf-8", "replace")
         )
