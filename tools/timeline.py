@@ -2,7 +2,7 @@
 """Draws what `watch json` prints of a session (docs/WATCH.md) as one page of HTML.
 
     watch json < SESSION.toml | tools/timeline.py > PAGE.html
-    tools/timeline.py [--title TEXT] [--svg] [--picture PATH] [-o PAGE.html] [JSON]
+    tools/timeline.py [--title TEXT] [--svg] [--vt PATH] [-o PAGE.html] [JSON]
 
 Time goes to the right, an entry a column. A band at the top has the console in front with its owner's colour, and below
 it the console that is pending. Each keyboard and process has a lane: its calls as marks, its waits as bars, the signals
@@ -10,8 +10,8 @@ that it gets, and arrows from requests to signals, from these to releases, and f
 column, or the keys, show the entry with its answer in words and the reason of a switch. Below are the screens at the
 end and all entries as text. The page needs no other file, and no network.
 
---svg writes the drawing alone, as a file of SVG for documents. The screens have their colours if the program `picture`
-is there, or at --picture PATH, and the session changed no size, palette or character map of the console.
+--svg writes the drawing alone, as a file of SVG for documents. The screens have their colours if the program `vt` is
+there (or at --vt PATH), which draws them once more.
 
 Exit status: 0 written, 1 the words or the JSON are refused, 3 a file can't be read or written.
 """
@@ -37,10 +37,10 @@ class Parser(argparse.ArgumentParser):
         raise Stop(1, f"{message}; {self.format_usage().strip()}")
 
 
-def drawer(path):
-    """The program `picture`, or None if no path was given and it isn't there."""
+def player(path):
+    """The program `vt`, or None if no path was given and it isn't there."""
     try:
-        return find("picture", path, 3)
+        return find("vt", path, 3)
     except Missing:
         if path:
             raise
@@ -51,7 +51,7 @@ def drawn(args, title, entries, final):
     """The page, or the drawing alone."""
     if args.svg:
         return picture(title, Drawing(entries))
-    return page(title, entries, final, colours_of(drawer(args.picture), entries, final))
+    return page(title, entries, final, colours_of(player(args.vt), entries, final))
 
 
 def main():
@@ -60,7 +60,7 @@ def main():
     parser.add_argument("-o", "--output", help="where the page is written; standard output without it")
     parser.add_argument("--title", help="the page's title")
     parser.add_argument("--svg", action="store_true", help="write the drawing alone, in SVG")
-    parser.add_argument("--picture", metavar="PATH", help="the program `picture`")
+    parser.add_argument("--vt", metavar="PATH", help="the program `vt`, for the colours of the screens")
     try:
         args = parser.parse_args()
         try:

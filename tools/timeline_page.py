@@ -3,10 +3,12 @@ import html
 import pathlib
 
 from timeline_drawing import CIRCLE, DEFINITIONS, LANE, LANES, LEFT, LETTERS, NAMES, STEP, Drawing, is_refused
-from timeline_screens import PLAIN, final_screens
+from timeline_screens import final_screens
 from timeline_words import texts
 
 HERE = pathlib.Path(__file__).resolve().parent
+# The two colours of text that nothing coloured: the page's style has them.
+PLAIN = "#aaaaaa", "#000000"
 
 
 def own_text(name):
@@ -42,14 +44,11 @@ def row_html(row, runs):
     if runs is None:
         return html.escape(row, quote=False)
     made = []
-    for letters, ink, ground, words in runs:
-        text = html.escape(letters, quote=False)
-        is_bold = "bold" in words.split()
-        if (ink, ground) == PLAIN and not is_bold:
-            made.append(text)
-        else:
-            bold = ' class="bold"' if is_bold else ""
-            made.append(f'<span{bold} style="color:{ink};background:{ground}">{text}</span>')
+    for run in runs:
+        text = html.escape(run.letters, quote=False)
+        bold = ' class="bold"' if run.is_bold else ""
+        is_plain = (run.ink, run.ground) == PLAIN and not run.is_bold
+        made.append(text if is_plain else f'<span{bold} style="color:{run.ink};background:{run.ground}">{text}</span>')
     return "".join(made)
 
 
@@ -57,7 +56,7 @@ def screen_html(screen, runs):
     """A heading and a text for a screen."""
     words = f"{screen.height} rows and {screen.width} columns; the cursor is in row {screen.y + 1} and column {screen.x + 1}"
     words += f"; BELs: {screen.bells}" if screen.bells else ""
-    words += "" if runs else "; without colours"
+    words += "" if runs else "; its colours aren't known"
     rows = [row_html(row, runs and runs[place]) for place, row in enumerate(screen.rows)]
     name = f"Console {screen.number}"
     return f"<h3>{name}</h3>\n<p>{words}.</p>\n<pre class=\"screen\">" + "\n".join(rows) + "</pre>"
