@@ -186,5 +186,3 @@ rows_more state cells y old new whole within added so_far =
 pub ruleset within_rows = (row_long, run_long, run_first)
 
 pub ruleset run_by_run = (row_long, run_long, runs_more)
-
-pub ruleset word_by_word = (row_long, run_long, words_more, word_of_row)

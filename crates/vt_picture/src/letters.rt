@@ -20,7 +20,6 @@ use vt_screen::ScreenState;
 const BASE_LINE: u16 = 11;
 
 /// Adds the text of so many cells.
-#[tactic(auto, using(crate::proofs::Texts::within_rows), unfolding(crate::specs::Picture::letters_text))]
 pub(crate) fn add_letters(
     alloc: Global,
     text: &mut Bytes,
@@ -63,7 +62,6 @@ fn add_letters_tag(
 }
 
 // Adds the words of the cells from column `x` up to column `end`.
-#[tactic(auto, using(crate::proofs::Texts::word_by_word))]
 fn add_words(
     alloc: Global,
     text: &mut Bytes,
@@ -126,7 +124,6 @@ fn add_word_tag(alloc: Global, text: &mut Bytes, x: u8, count: u8) -> Result<(),
 }
 
 // Adds the left edges of the cells from column `x` up to column `end`.
-#[tactic(auto, using(crate::proofs::Texts::edges_more))]
 fn add_edges(alloc: Global, text: &mut Bytes, x: u8, end: u8) -> Result<(), NoMemory>
     requires order { x ≤ end }
     ensures { OnOk result (text.new.bytes ≡ text.old.bytes ++ edges x (end - x)) }
