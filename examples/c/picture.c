@@ -77,11 +77,12 @@ static void print_run(FILE *file, struct vt_screen *screen, bool reverse, int y,
     fputs("</text>\n", file);
 }
 
-/* Whether the cell at x is a character of one column, and one unit of UTF-16, in which SVG counts characters. */
+/* Whether the cell at x is a character of one column, and one unit of UTF-16, in which SVG counts characters. The soft
+ * hyphen takes no column. */
 static bool is_narrow(const struct vt_cell *cells, int x, int cols)
 {
     bool is_half = cells[x].code == VT_HALF || (x + 1 < cols && cells[x + 1].code == VT_HALF);
-    return !is_half && cells[x].code < 0x10000;
+    return !is_half && cells[x].code != 0xAD && cells[x].code < 0x10000;
 }
 
 static void print_row(FILE *file, struct vt_screen *screen, const struct vt_state *state, int y)
