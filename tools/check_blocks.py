@@ -72,7 +72,7 @@ LEFT = {
     },
     "docs/guide/install.md": {
         "tools/build.py": BUILD, "PATH=": "check_pages.py sets such a path",
-        "tools/copy_crates.py": "a proof of all programs", "for it in": "it copies the programs of that proof",
+        "tools/copy_crates.py": "a proof of all programs",
         "tools/install.sh": "check_install.py installs into a folder of its own",
     },
     "docs/guide/test-a-terminal-program.md": {"PATH=": "check_expect.py sets such a path"},

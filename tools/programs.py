@@ -100,6 +100,18 @@ def find(name, option=None, status=2):
     return pathlib.Path(path).absolute()
 
 
+def to_measure(path, is_unproved_taken):
+    """A program to take figures of: none that tools/build.py made, unless the caller takes these too."""
+    path = pathlib.Path(path).resolve()
+    try:
+        lines = (path.parent / "BUILD").read_text(encoding="utf-8").splitlines()
+    except OSError:
+        lines = []
+    if not is_unproved_taken and any(line.startswith(f"{path.name}: not proved") for line in lines):
+        raise Missing(2, f"{path} isn't proved, so its figures are others than those of `vt`; --unproved takes it")
+    return path
+
+
 @functools.lru_cache(maxsize=None)
 def find_for_check(name, option=None):
     """The same for a check: it prints a line if the program isn't the proved one, and ends if there is none."""

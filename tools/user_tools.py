@@ -19,9 +19,9 @@ NAMES = {
 }  # fmt: skip
 # What a module reads besides Python.
 DATA = {
-    "timeline_page.py": ["tools/timeline.css", "tools/timeline_drawing.css", "tools/timeline.js"],
+    "timeline.py": ["tools/timeline*.css", "tools/timeline*.js"],
     "vt_names.py": ["crates/key_syms/src/table.rt", "crates/key_syms/src/index.rt"],
-    "conformance/forms.py": ["examples/conformance/*.jsonl"],
+    "conformance/forms.py": ["examples/conformance/[a-z]*"],
     "conformance/engine_list.py": ["tools/conformance/*.[ch]", "tools/conformance/pyte_adapter.py"],
 }
 
