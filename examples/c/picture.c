@@ -44,7 +44,7 @@ static int word_end(const struct vt_cell *cells, int x, int end)
     return x;
 }
 
-/* A word of a run, with the left edge of each cell. Nobody sees where spaces are. */
+/* A word of a run, with the left edge of each cell. Spaces need no place. */
 static void print_word(FILE *file, int x, int end, const struct vt_cell *cells)
 {
     bool is_blank = cells[x].code == ' ';

@@ -43,7 +43,7 @@ unfoldable pub word_tag : ℕ → ℕ → List ℕ
 word_tag x count =
     codes "<tspan x='" ++ (decimal (cell_width * x) ++ (edges (suc x) (count - 1) ++ codes "'>"))
 
--- a word from column x on; nobody sees where spaces are
+-- a word from column x on; spaces need no place
 unfoldable pub word_text : ℕ → List Cell → List ℕ
 word_text x word =
     if is_blank (first_cell word) then flat_map cell_text word
