@@ -5,12 +5,14 @@ usage: check_picture.py [--picture PATH] [--vt PATH] [--browser PATH] [--streams
 
 - Pictures of small texts have the colours, classes, places and characters that docs/SCREEN.md gives these texts.
 - Pictures of the recordings of examples/, of each byte, and of N random streams (40) are well-formed XML. In each the
-  rectangles cover every row from the first column to the last, each text stands on its rectangle, the texts of a row
-  are the row that `vt screen` prints, and the title and the description have the size.
+  rectangles cover every row from the first column to the last, each text stands on its rectangle, each letter has the
+  place of its cell, the texts of a row are the row that `vt screen` prints, and the title and the description have the
+  size.
 - The picture that README.md shows is that of its recording.
 - Words that aren't rows and columns, a read that fails and a write that fails end with a status and its line.
-- Chromium draws one picture without a window, and pixels of it have the colours of its cells. If Chromium isn't
-  installed, a line names this check as skipped.
+- Chromium and rsvg-convert draw a picture without a window, and pixels of it have the colours of its cells. They draw a
+  frame in it, and its lines have no gaps, if the font of `monospace` is one of those whose frames fill a line. A line
+  names each of these checks that is skipped, since a program or such a font isn't installed.
 
 Prints a line for each check that fails and last 'N passed, M failed'. Ends with status 1 if one fails, and with 2 and a
 message if a program is missing or a check can't be run.
@@ -31,7 +33,7 @@ from programs import find_for_check
 
 ROOT = pathlib.Path(__file__).resolve().parent.parent
 SVG = "{http://www.w3.org/2000/svg}"
-WIDTH, HEIGHT = 8, 16
+WIDTH, HEIGHT = 8, 15
 SECONDS, BROWSER_SECONDS = 120, 300
 BROWSERS = ["chromium", "chromium-browser", "google-chrome"]
 
@@ -69,9 +71,9 @@ ROWS = [
 
 # A text, the left and upper edge and the colour of the cursor, and what the description has of it.
 CURSORS = [
-    (b"ab\n", (2 * WIDTH, HEIGHT + 14, WHITE), "The cursor is in row 2 and column 3."),
-    (b"\x1b[31mab\x1b[D", (WIDTH, 14, RED), "The cursor is in row 1 and column 2."),
-    (b"\x1b[?5h", (0, 14, BLACK), "The cursor is in row 1 and column 1."),
+    (b"ab\n", (2 * WIDTH, HEIGHT + 13, WHITE), "The cursor is in row 2 and column 3."),
+    (b"\x1b[31mab\x1b[D", (WIDTH, 13, RED), "The cursor is in row 1 and column 2."),
+    (b"\x1b[?5h", (0, 13, BLACK), "The cursor is in row 1 and column 1."),
     (b"\x1b[?25l", None, "The cursor is hidden."),
 ]
 
@@ -82,12 +84,23 @@ DRAWN += b"\x1b[44m\xe4\xb8\xad\x1b[0;7m \x1b[0;45m \x1b[m\x1b[1;4H"
 # Row, column, the place in the cell, and the colour there.
 PIXELS = [
     (0, 0, (4, 8), RED), (0, 1, (4, 8), GREEN), (0, 2, (4, 8), BRIGHT_WHITE), (0, 3, (4, 8), BLACK),
-    (0, 3, (4, 15), WHITE), (0, 3, (0, 13), BLACK), (1, 0, (0, 0), BLUE), (1, 1, (7, 0), BLUE),
+    (0, 3, (4, 14), WHITE), (0, 3, (0, 12), BLACK), (1, 1, (7, 0), BLUE), (1, 1, (7, 7), BLUE),
     (1, 2, (4, 8), WHITE), (1, 3, (4, 8), "#123456"),
 ]
 
+# A frame of 4 rows and 6 columns, and its lines from one corner to the other: a strip that each lies in.
+FRAME = "\x1b[?25l┌────┐\r\n│    │\r\n│    │\r\n└────┘".encode()
+LINES = [
+    ("upper", (4, 0), (5 * WIDTH + 3, HEIGHT - 1)),
+    ("lower", (4, 3 * HEIGHT), (5 * WIDTH + 3, 4 * HEIGHT - 1)),
+    ("left", (0, 8), (WIDTH - 1, 3 * HEIGHT + 5)),
+    ("right", (5 * WIDTH, 8), (6 * WIDTH - 1, 3 * HEIGHT + 5)),
+]
+# Fonts whose frames are as wide as a column and as high as a line of 15 pixels, at 13.3 pixels.
+FONTS = "DejaVu Sans Mono,Liberation Mono,Noto Sans Mono,Hack,JetBrains Mono".split(",")
+
 # The pictures that pages show: the file, the recording, its rows and columns.
-STORED = [("docs/monitor.svg", "examples/recordings/monitor", "25", "80")]
+STORED = [("docs/files.svg", "examples/pictures/files", "25", "80")]
 
 
 class Check:
@@ -129,6 +142,23 @@ def cells_of(units, size):
     return int(units) // size if int(units) % size == 0 else -1
 
 
+def letters_of(text, x, count):
+    """The characters of a text of so many cells from column x on; None if one of them isn't at the place of its cell."""
+    letters = text.text or ""
+    is_so = set(letters) <= {" "}
+    for word in text:
+        wanted = [WIDTH * (x + len(letters) + i) for i in range(len(word.text) if count == len(whole(text)) else count)]
+        is_so &= word.tag == SVG + "tspan" and " " not in word.text and set(word.tail or "") <= {" "}
+        is_so &= word.attrib == {"x": " ".join(map(str, wanted))}
+        letters += word.text + (word.tail or "")
+    return letters if is_so else None
+
+
+def whole(text):
+    """All characters of a text."""
+    return "".join(text.itertext())
+
+
 def drawn_rows(elements):
     """For each row its texts: column, cells, characters, the two colours, and the class. Each follows its rectangle."""
     rows, box = {}, None
@@ -139,11 +169,10 @@ def drawn_rows(elements):
             letters = element.attrib
             y = cells_of(box["y"], HEIGHT)
             x, count = cells_of(box["x"], WIDTH), cells_of(box["width"], WIDTH)
-            fits = (letters["x"], letters["textLength"]) == (box["x"], box["width"])
-            stands = int(letters["y"]) == HEIGHT * y + 12 and box["height"] == str(HEIGHT)
-            if fits and stands:
-                text = (x, count, element.text or "", letters["fill"], box["fill"], letters.get("class"))
-                rows.setdefault(y, []).append(text)
+            stands = int(letters["y"]) == HEIGHT * y + 11 and box["height"] == str(HEIGHT)
+            found = letters_of(element, x, count)
+            if letters["x"] == box["x"] and stands and found is not None:
+                rows.setdefault(y, []).append((x, count, found, letters["fill"], box["fill"], letters.get("class")))
     return rows
 
 
@@ -178,7 +207,7 @@ def random_stream(number):
         if kind < 2:
             parts.append(bytes(chance.randrange(32, 127) for _ in range(chance.randrange(12))))
         elif kind == 2:
-            parts.append(chr(chance.choice([0xE9, 0x2500, 0x4E2D, 0xAC00, 0x1F600, 0x301, 0xFFFE, 0x85])).encode())
+            parts.append(chr(chance.choice([0xE9, 0x2500, 0x2502, 0x1D400, 0x4E2D, 0xAC00, 0x1F600, 0x301, 0xFFFE, 0x85])).encode())
         elif kind == 3:
             parts.append(b"\x1b[%d;%dm" % (chance.randrange(10), chance.randrange(30, 48)))
         elif kind == 4:
@@ -197,6 +226,8 @@ def streams(count):
     """Names, rows, columns and bytes."""
     for path in sorted((ROOT / "examples/recordings").glob("*.rows")):
         yield path.stem, 25, 80, path.with_suffix("").read_bytes()
+    for _, stream, rows, cols in STORED:
+        yield stream, int(rows), int(cols), (ROOT / stream).read_bytes()
     for byte in range(256):
         yield f"byte {byte:02x}", 2, 5, b"\x1b[3h" + bytes([byte]) + b"a"
     yield "the largest screen", 255, 255, b"\x1b[32m#" * 70000
@@ -291,22 +322,67 @@ def paeth(left, up, corner):
     return min((left, up, corner), key=lambda part: abs(left + up - corner - part))
 
 
-def check_browser(check, program, browser):
-    """The pixels of a picture that a browser draws."""
-    _, picture, _ = run([program, "2", "4"], DRAWN)
+def by_browser(browser, picture, folder):
+    """The image that a browser draws."""
+    source, image = pathlib.Path(folder, "picture.svg"), pathlib.Path(folder, "picture.png")
+    source.write_bytes(picture)
+    options = ["--headless", "--no-sandbox", "--disable-gpu", "--hide-scrollbars", "--force-device-scale-factor=1"]
+    options += [f"--user-data-dir={folder}/profile", "--window-size=200,200", f"--screenshot={image}"]
+    run([browser, *options, source.as_uri()], seconds=BROWSER_SECONDS)
+    return image.read_bytes() if image.exists() else b""
+
+
+def by_converter(converter, picture, folder):
+    """The image that rsvg-convert draws."""
+    return run([converter], picture)[1]
+
+
+def check_drawn(check, program, drawer, drawn, has_frames):
+    """The pixels of pictures that a program draws."""
     with tempfile.TemporaryDirectory() as folder:
-        source, image = pathlib.Path(folder, "picture.svg"), pathlib.Path(folder, "picture.png")
-        source.write_bytes(picture)
-        options = ["--headless", "--no-sandbox", "--disable-gpu", "--hide-scrollbars", "--force-device-scale-factor=1"]
-        options += [f"--user-data-dir={folder}/profile", "--window-size=200,200", f"--screenshot={image}"]
-        run([browser, *options, source.as_uri()], seconds=BROWSER_SECONDS)
-        rows = pixels_of(image.read_bytes()) if image.exists() else None
-    check.holds(rows is not None, f"{browser} draws no image")
-    for y, x, (across, down), wanted in PIXELS if rows else []:
+        images = [drawn(drawer, run([program, *size], given)[1], folder)
+                  for size, given in [(("2", "4"), DRAWN), (("4", "6"), FRAME)]]
+    check.holds(all(images), f"{drawer} draws no image")
+    if all(images):
+        rows, frame = map(pixels_of, images)
+        check_pixels(check, drawer, rows)
+        if has_frames:
+            check_frame(check, drawer, frame)
+
+
+def check_pixels(check, drawer, rows):
+    """The pixels of cells."""
+    for y, x, (across, down), wanted in PIXELS:
         found = "#" + rows[HEIGHT * y + down][WIDTH * x + across][:3].hex()
-        check.holds(found == wanted, f"row {y}, column {x}, pixel {across},{down}: wanted {wanted}, found {found}")
-    letters = rows and {bytes(pixel[:3]).hex() for line in rows[HEIGHT:2 * HEIGHT] for pixel in line[:2 * WIDTH]}
-    check.holds(letters and len(letters) > 1, "the wide character isn't drawn")
+        what = f"{drawer}: row {y}, column {x}, pixel {across},{down}: wanted {wanted}, found {found}"
+        check.holds(found == wanted, what)
+    letters = {bytes(pixel[:3]).hex() for line in rows[HEIGHT:2 * HEIGHT] for pixel in line[:2 * WIDTH]}
+    check.holds(len(letters) > 1, f"{drawer}: the wide character isn't drawn")
+
+
+def check_frame(check, drawer, rows):
+    """The lines of a frame: each pixel from their first to their last one has something else than the background."""
+    for what, (left, top), (right, bottom) in LINES:
+        is_drawn = [[any(rows[y][x][:3]) for x in range(left, right + 1)] for y in range(top, bottom + 1)]
+        steps = is_drawn if bottom - top > right - left else zip(*is_drawn)
+        gaps = sum(not any(step) for step in steps)
+        check.holds(gaps == 0, f"{drawer}: the {what} line of a frame has {gaps} gaps")
+
+
+def check_images(check, program, browser):
+    """The images of all programs that are there."""
+    font = run(["fc-match", "-f", "%{family[0]}", "monospace"])[1].decode() if shutil.which("fc-match") else "none known"
+    if font not in FONTS:
+        print(f"skipped: the frames of a picture, since the font of monospace is {font}")
+    drawers = [
+        ("Chromium", browser or next(filter(None, map(shutil.which, BROWSERS)), None), by_browser),
+        ("rsvg-convert", shutil.which("rsvg-convert"), by_converter),
+    ]
+    for name, drawer, drawn in drawers:
+        if drawer:
+            check_drawn(check, program, drawer, drawn, font in FONTS)
+        else:
+            print(f"skipped: the pixels of a picture, since {name} isn't installed")
 
 
 def main():
@@ -324,11 +400,7 @@ def main():
     check_streams(check, given.picture, given.vt, given.streams)
     check_stored(check, given.picture)
     check_endings(check, given.picture)
-    browser = given.browser or next(filter(None, map(shutil.which, BROWSERS)), None)
-    if browser:
-        check_browser(check, given.picture, browser)
-    else:
-        print("skipped: the pixels of a picture, since Chromium isn't installed")
+    check_images(check, given.picture, given.browser)
     print(f"{check.passed} passed, {check.failed} failed")
     return 1 if check.failed else 0
 

@@ -1,13 +1,15 @@
 #!/usr/bin/env python3
 """Checks the page that tools/timeline.py writes, by Python's parser of HTML and, if it is installed, by Chromium.
 
-usage: check_timeline.py [--watch PATH] [--browser PATH] [--time SECONDS]
+usage: check_timeline.py [--watch PATH] [--vt PATH] [--browser PATH] [--time SECONDS]
 
 The sessions of examples/switches and the tour, a generated one of 64 processes, and one without entries are watched and
 drawn. In each page the marks, signals, waits and arrows are counted against the JSON; no attribute or style refers to
 the outside, every element is closed, and each entry's text has its line, the name of its error, and the reason of its
-switches. Chromium opens each page without a window and counts the same; its keys go through the entries, and
-aria-valuetext is the text of the entry; pointing at a mark shows its entry. A page of 64 processes and 10,000 entries
+switches. The screens at the end have the colours of console_codes(4). The pictures of pages are those of their
+sessions. Chromium opens each page without a window and counts the same; no arrow goes through a number, and no label of
+a pending console stands on hatching; its keys go through the entries, and aria-valuetext is the text of the entry;
+pointing at a mark shows its entry. A page of 64 processes and 10,000 entries
 has to be there within SECONDS by the browser's own clock, if SECONDS is given; otherwise the time is printed. Whatever
 else the machine does, the browser's thread has to need less than two seconds of a processor for it. If Chromium isn't
 installed, a line names these checks as skipped. No picture is kept. Inputs that aren't of the form have to be refused
@@ -27,6 +29,7 @@ import subprocess
 import sys
 import tempfile
 import time
+import xml.etree.ElementTree as ElementTree
 
 sys.dont_write_bytecode = True
 
@@ -34,6 +37,7 @@ from browser import Browser, installed  # noqa: E402: after the line that keeps 
 from check_hostile import mutated  # noqa: E402
 from programs import find_for_check  # noqa: E402
 from timeline_page import page  # noqa: E402
+from timeline_screens import colours_of  # noqa: E402
 from tool_files import Stop  # noqa: E402
 from watch_json import read_watch  # noqa: E402
 
@@ -73,6 +77,26 @@ REFUSED = [
     ("[" * 100000 + "\n", "line 1: no object of JSON"),
     ("\ud800\n", "line 1: wanted UTF-8"),
 ]  # fmt: skip
+
+
+# The calls of a process on console 1, and the first row of the page's screen without its spaces at the end. The colours
+# are those of console_codes(4): 170 for a part, and 85 and 255 in a bright colour. The palette has another red.
+PALETTE = "0000000a0b0c00aa00aa55000000aaaa00aa00aaaaaaaaaa" + "555555ff555555ff55ffff555555ffff55ff55ffffffffff"
+SCREENS = [
+    (["say 0 plain <&>"], "plain &lt;&amp;&gt;"),
+    (["say 0 \x1b[31mred\x1b[m and"], '<span style="color:#aa0000;background:#000000">red</span> and'),
+    (["say 0 \x1b[1;33;44mbold"], '<span class="bold" style="color:#ffff55;background:#0000aa">bold</span>'),
+    (["say 0 \x1b[7mturned"], '<span style="color:#000000;background:#aaaaaa">turned</span>'),
+    (["say 0 \x1b[31m", "resize 0 3 12", "say 0 red"], '<span style="color:#aa0000;background:#000000">red</span>'),
+    (["say 0 \x1b]P1123456\x1b[31mown"], '<span style="color:#123456;background:#000000">own</span>'),
+    (["say 0 \x1b[31mred", f"setpal 0 {PALETTE}"], '<span style="color:#0a0b0c;background:#000000">red</span>'),
+    (["say 0 \x1b[?5h\x1b[31mall"], '<span style="color:#000000;background:#aa0000">all</span>'),
+    (["open 2", "say 1 \x1b[31mother", "close 1", "say 0 plain"], "plain"),
+]  # fmt: skip
+SPACES = re.compile(r"(<span[^>]*> +</span>| +)$")
+UNKNOWN = "its colours aren't known"
+# The pictures of pages, by their sessions.
+STORED = {"docs/switch.svg": "two-servers", "docs/guide/released.svg": "released"}
 
 
 class Check:
@@ -128,7 +152,7 @@ class Page(html.parser.HTMLParser):
 
     def handle_data(self, data):
         if self.open:
-            tag, name = self.open[-1]
+            tag, name = next((it for it in reversed(self.open) if it[0] != "span"), self.open[-1])
             self.texts[name or tag] += data
             if tag in ("style", "script") and re.search(r"url\((?!#)|@import|https?:|fetch\(|import\b", data):
                 self.outside.append(tag)
@@ -199,6 +223,42 @@ def check_refused(check):
         check.holds(is_so, f"{words}: status {ran.returncode}, {ran.stderr[:200]!r}")
 
 
+def check_screens(check, args):
+    """The colours of the screens at the end."""
+
+    for calls, wanted in SCREENS:
+        script = json.dumps(["open 1", *calls])
+        session = f"rows = 2\ncols = 20\nconsoles = [1, 2]\n[[process]]\nhome = 1\nprivileged = true\nscript = {script}\n"
+        drawn = run([TOOL, "--vt", args.vt], run([args.watch, "json"], session.encode()).stdout).stdout.decode()
+        found = SPACES.sub("", drawn.partition('<pre class="screen">')[2].partition("\n")[0])
+        check.holds(found == wanted, f"{calls}: wanted {wanted}, found {found}")
+        check.holds(UNKNOWN not in drawn, f"{calls}: {UNKNOWN}")
+
+
+def check_stored(check, args):
+    """The pictures of pages."""
+    for path, name in STORED.items():
+        watched = run([args.watch, "json"], (ROOT / f"examples/switches/{name}.toml").read_bytes())
+        drawn = run([TOOL, "--svg", "--title", f"Timeline of {name}"], watched.stdout).stdout
+        check.holds(drawn == (ROOT / path).read_bytes(), f"{path} isn't the drawing of {name}")
+        try:
+            ElementTree.fromstring(drawn)
+        except ElementTree.ParseError as fault:
+            check.holds(False, f"{path} isn't well-formed: {fault}")
+        outside = re.findall(rb"var\(|https?://(?!www.w3.org/2000/svg)|url\((?!#)", drawn)
+        check.holds(not outside, f"{path} has variables, or refers to the outside: {outside[:3]}")
+
+
+# How many numbers of signals an arrow goes through, and how many labels of pending consoles stand on hatching.
+HIDDEN = """(() => { const all = (which) => [...document.querySelectorAll('#all ' + which)];
+ const numbers = all('text.signal').map((text) => ({ box: text.getBBox(), foot: +text.getAttribute('y') }));
+ const lines = numbers.length === 0 ? [] : all('path.arrow');
+ const points = lines.flatMap((line) => Array.from({ length: Math.ceil(line.getTotalLength()) },
+  (_, place) => line.getPointAtLength(place)));
+ const hit = ({ box, foot }) => points.some((it) => it.x > box.x && it.x < box.x + box.width && it.y < foot && it.y > foot - 7);
+ const plates = all('.plate').map((plate) => plate.getBBox());
+ const bare = (box) => !plates.some((it) => it.x <= box.x && box.x + box.width <= it.x + it.width + 2);
+ return [numbers.filter(hit).length, all('text.label.pending').map((text) => text.getBBox()).filter(bare).length]; })()"""
 MARK = """(() => { const box = document.querySelector('.mark[data-entry="%d"]').getBoundingClientRect();
  return [box.x + box.width / 2, box.y + box.height / 2]; })()"""
 PAINTED = "performance.getEntriesByType('paint').map((paint) => paint.startTime).concat(0).sort((a, b) => b - a)[0]"
@@ -220,6 +280,9 @@ def check_drawn(check, browser, name, entries, parts, path):
         check.holds(found == wanted, f"{name}: the browser has {found} elements {kind}, not {wanted}")
     if not entries:
         return work, there
+    if len(entries) < 1000:
+        hidden = browser.value(HIDDEN)
+        check.holds(hidden == [0, 0], f"{name}: numbers under arrows and labels on hatching: {hidden}")
     browser.value("document.getElementById('view').focus()")
     switches = [entry["entry"] for entry in entries if any(did["what"] == "switch" for did in entry["did"])]
     mine = [entry["entry"] for entry in entries if entry["caller"] == entries[0]["caller"]]
@@ -259,7 +322,8 @@ def check_damaged(check, name, given, count):
         chance = random.Random(f"{name} {number}")
         damaged = mutated(chance, given) if number % 2 else changed(chance, given)
         try:
-            Page(page(name, *read_watch(damaged)))
+            entries, final = read_watch(damaged)
+            Page(page(name, entries, final, colours_of(None, entries, final)))
         except Stop as stop:
             check.holds(re.match(r"line \d+: ", str(stop)), f"{name}, damaged {number}: {stop}")
         except Exception as fault:  # noqa: BLE001: whatever it is, a user would see it
@@ -294,12 +358,15 @@ def large():
 def main():
     parser = argparse.ArgumentParser(description="Checks the page that tools/timeline.py writes.")
     parser.add_argument("--watch")
+    parser.add_argument("--vt")
     parser.add_argument("--browser", default=installed())
     parser.add_argument("--time", type=float)
     args = parser.parse_args()
-    args.watch = find_for_check("watch", args.watch)
+    args.watch, args.vt = (str(find_for_check(name, getattr(args, name))) for name in ("watch", "vt"))
     check = Check()
     check_refused(check)
+    check_screens(check, args)
+    check_stored(check, args)
     with tempfile.TemporaryDirectory() as folder:
         browser = Browser(args.browser, folder) if args.browser else None
         for name, session in sessions():

@@ -5,9 +5,9 @@ are the signals, those of class `arrow` the arrows, and those of class `bar` the
 """
 import collections
 
-STEP, LEFT, NAMES = 22, 14, 64
+STEP, LEFT, NAMES = 26, 16, 64
 AXIS, DISPLAY, PENDING, LANES, LANE = 14, 24, 52, 78, 32
-STRIP, MOST_STRIPS = 44, 14
+STRIP, MOST_STRIPS = 38, 16
 # In longer drawings the texts are fewer, since a browser needs long for texts.
 MOST_TEXTS = 2_000
 # The calls that matter for switches have a letter, drawn with strokes from the centre of its circle.
@@ -18,6 +18,12 @@ LETTERS = {
     "disallocate": "m-2-4v8h1q4 0 4-4t-4-4z",
 }  # fmt: skip
 CIRCLE = "a8 8 0 1 0 16 0a8 8 0 1 0-16 0m8 0"
+# The heads of the two kinds of arrows, and the hatching of a pending console.
+HEAD = """<marker id="%s" viewBox="0 0 8 8" refX="7" refY="4" markerWidth="9" markerHeight="9" markerUnits="userSpaceOnUse"
+ orient="auto"><path class="head %s" d="M0 0L8 4L0 8z"/></marker>
+"""
+DEFINITIONS = f"""<defs>{HEAD % ("ask", "ask")}{HEAD % ("go", "go")}<pattern id="hatch" width="6" height="6"
+ patternUnits="userSpaceOnUse" patternTransform="rotate(45)"><path class="hatch" d="M0 0V6"/></pattern></defs>"""
 
 
 def order_of(caller):
@@ -102,6 +108,9 @@ class Drawing:
         self.back.append(f'<rect class="{kind}{colour}" x="{x}" y="{top}" width="{width}" height="{height}"/>')
         room = int(len(text) * 6.6) + 6
         for start in self.label_places(first, last, room) if text else []:
+            if kind == "pending":
+                plate = f'x="{start - 4}" y="{top + 1}" width="{room}" height="{height - 2}"'
+                self.back.append(f'<rect class="plate" {plate}/>')
             self.back.append(f'<text class="label {kind}" x="{start}" y="{top + height // 2 + 4}">{text}</text>')
 
     def label_places(self, first, last, room):
@@ -192,16 +201,22 @@ class Drawing:
         for did in entry["did"]:
             if did["what"] == "signal":
                 to = did["to"]
-                x, y = x_of(place) + 9 * (number[to] + (before == "switch")), self.y_of(to) + 13
+                is_acquire = before == "switch"
+                x, y = x_of(place) + 20 * number[to] + 9 * is_acquire, self.y_of(to) + 13
                 number[to] += 1
                 self.raised[place, to, did["signal"]] = x, y
                 self.marks.append(f'<path class="raised" data-entry="{place}" d="M{x - 4} {y - 3}h8l-4 7z"/>')
                 if not self.is_long:
-                    self.marks.append(f'<text class="signal" x="{x + 6}" y="{y + 5}">{did["signal"]}</text>')
-                self.signal_arrow(place, entry["caller"], to, x, y, before == "switch")
+                    self.signal_number(x, y, did["signal"], is_acquire)
+                self.signal_arrow(place, entry["caller"], to, x, y, is_acquire)
             elif did["what"] == "switch":
                 self.switch_arrows(place, entry["caller"], did)
             before = did["what"]
+
+    def signal_number(self, x, y, signal, is_acquire):
+        """A signal's number stands where no arrow begins: the one to a release goes to the right."""
+        kind, x = ("acquire", x + 6) if is_acquire else ("release", x - 6)
+        self.marks.append(f'<text class="signal {kind}" x="{x}" y="{y + 5}">{signal}</text>')
 
     def signal_arrow(self, place, caller, to, x, y, is_acquire):
         if is_acquire:
@@ -233,16 +248,19 @@ class Drawing:
                 made.append(f'<rect {colour} x="6" y="{y - 11}" width="12" height="14"/>')
         return "\n".join(made)
 
-    def svg(self):
-        """The drawing, and beside it the names of its lanes."""
+    def layers(self):
+        """All elements of the drawing."""
         drawn = self.back + self.bars + self.arrows + self.marks
         # (a line's end between two elements is a node of its own)
-        layers = "\n".join("".join(drawn[place : place + 20]) for place in range(0, len(drawn), 20))
+        return "\n".join("".join(drawn[place : place + 20]) for place in range(0, len(drawn), 20))
+
+    def svg(self):
+        """The drawing, and beside it the names of its lanes."""
         return (
             f'<svg class="names" width="{NAMES}" height="{self.height}" aria-hidden="true"><g id="names">\n'
             f"{self.names()}\n</g></svg>\n"
             f'<svg class="drawing" width="{self.width}" height="{self.height}" aria-hidden="true">'
-            f'<rect id="column" y="0" width="{STEP}" height="{self.height}" x="-100"/><g id="all">\n{layers}\n</g>'
+            f'<rect id="column" y="0" width="{STEP}" height="{self.height}" x="-100"/><g id="all">\n{self.layers()}\n</g>'
             f'<circle id="ring" r="11" cx="-100" cy="0"/></svg>'
         )
 

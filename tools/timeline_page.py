@@ -1,18 +1,19 @@
 """The page of a timeline: one text of HTML with its drawing, style and script, and no reference to the outside."""
 import html
 import pathlib
-import re
 
-from timeline_drawing import CIRCLE, LANE, LANES, LEFT, LETTERS, NAMES, STEP, Drawing, is_refused
+from timeline_drawing import CIRCLE, DEFINITIONS, LANE, LANES, LEFT, LETTERS, NAMES, STEP, Drawing, is_refused
+from timeline_screens import final_screens
 from timeline_words import texts
 
 HERE = pathlib.Path(__file__).resolve().parent
-DEFINITIONS = """<svg width="0" height="0" aria-hidden="true" class="definitions"><defs>
-<marker id="head" viewBox="0 0 8 8" refX="7" refY="4" markerWidth="9" markerHeight="9" markerUnits="userSpaceOnUse"
- orient="auto"><path class="head"
- d="M0 0L8 4L0 8z"/></marker>
-<pattern id="hatch" width="6" height="6" patternUnits="userSpaceOnUse" patternTransform="rotate(45)"><path class="hatch"
- d="M0 0V6"/></pattern></defs></svg>"""
+# The two colours of text that nothing coloured: the page's style has them.
+PLAIN = "#aaaaaa", "#000000"
+
+
+def own_text(name):
+    """The text of a file beside this one."""
+    return (HERE / name).read_text(encoding="utf-8")
 
 
 def legend():
@@ -38,21 +39,32 @@ def legend():
     return "<ul class=\"legend\">\n" + "\n".join(items) + "\n</ul>"
 
 
-def screens(final):
-    """The final text: a heading and a text for each screen."""
-    made, name, rows = [], None, []
-    for line in [*final.split("\n"), "%queue"]:
-        found = re.fullmatch(r"%screen (\d+) (\d+) (\d+) (\d+) (\d+) (\d+)", line)
-        if found:
-            number, height, width, x, y, bells = found.groups()
-            name, rows = f"Console {number}", []
-            words = f"{height} rows and {width} columns; the cursor is in row {int(y) + 1} and column {int(x) + 1}"
-            words += f"; BELs: {bells}" if bells != "0" else ""
-        elif line.startswith("|"):
-            rows.append(html.escape(line[1:-1], quote=False))
-        elif line.startswith("%queue") and name:
-            made.append(f"<h3>{name}</h3>\n<p>{words}.</p>\n<pre class=\"screen\">" + "\n".join(rows) + "</pre>")
-            name = None
+def row_html(row, runs):
+    """A row of a screen, in its colours if there are any."""
+    if runs is None:
+        return html.escape(row, quote=False)
+    made = []
+    for run in runs:
+        text = html.escape(run.letters, quote=False)
+        bold = ' class="bold"' if run.is_bold else ""
+        is_plain = (run.ink, run.ground) == PLAIN and not run.is_bold
+        made.append(text if is_plain else f'<span{bold} style="color:{run.ink};background:{run.ground}">{text}</span>')
+    return "".join(made)
+
+
+def screen_html(screen, runs):
+    """A heading and a text for a screen."""
+    words = f"{screen.height} rows and {screen.width} columns; the cursor is in row {screen.y + 1} and column {screen.x + 1}"
+    words += f"; BELs: {screen.bells}" if screen.bells else ""
+    words += "" if runs else "; its colours aren't known"
+    rows = [row_html(row, runs and runs[place]) for place, row in enumerate(screen.rows)]
+    name = f"Console {screen.number}"
+    return f"<h3>{name}</h3>\n<p>{words}.</p>\n<pre class=\"screen\">" + "\n".join(rows) + "</pre>"
+
+
+def screens(final, colours):
+    """The final text: the screens of all consoles."""
+    made = [screen_html(screen, colours.get(screen.number)) for screen in final_screens(final)]
     return "\n".join(made) or "<p>There is none.</p>"
 
 
@@ -72,11 +84,10 @@ def counts(entries, drawing):
     return f"{len(entries)} entries of {len(drawing.callers)} callers; switches: {switches}; refused calls: {refused}."
 
 
-def page(title, entries, final):
-    """The whole page."""
+def page(title, entries, final, colours):
+    """The whole page; for each console the runs of its rows, if their colours are known."""
     drawing = Drawing(entries)
-    style = (HERE / "timeline.css").read_text(encoding="utf-8")
-    script = (HERE / "timeline.js").read_text(encoding="utf-8")
+    style, drawn, script = (own_text(f"timeline{end}") for end in (".css", "_drawing.css", ".js"))
     title = html.escape(title)
     last = max(len(entries) - 1, 0)
     return f"""<!doctype html>
@@ -86,14 +97,14 @@ def page(title, entries, final):
 <meta name="viewport" content="width=device-width">
 <title>{title}</title>
 <style>
-{style}</style>
+{drawn}{style}</style>
 </head>
 <body>
 <h1>{title}</h1>
 <p>{counts(entries, drawing)} Entries are counted from 0, and time goes to the right.</p>
 <p id="help">Point at a column, or use the keys: left and right for the entry before and after, up and down for those of
 the same caller, Page Up and Page Down for the switch before and after, Home and End.</p>
-{DEFINITIONS}
+<svg width="0" height="0" aria-hidden="true" class="definitions">{DEFINITIONS}</svg>
 <div id="view" tabindex="0" role="slider" aria-label="Entry" aria-describedby="help" aria-valuemin="0"
  aria-valuemax="{last}" aria-valuenow="0" data-step="{STEP}" data-left="{LEFT}" data-names="{NAMES}"
  data-lanes="{LANES + 12}" data-lane="{LANE}" data-callers="{' '.join(drawing.callers)}">
@@ -104,7 +115,7 @@ the same caller, Page Up and Page Down for the switch before and after, Home and
 <h2>The signs</h2>
 {legend()}
 <h2>The screens at the end</h2>
-{screens(final)}
+{screens(final, colours)}
 <h2>All entries</h2>
 <pre id="entries" tabindex="0" aria-label="All entries">{entries_text(entries)}</pre>
 <script>

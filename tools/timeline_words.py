@@ -1,4 +1,6 @@
 """The sentences of a timeline: what an entry of `watch json` asks, what it is answered, and what it did."""
+from escapes import escaped
+
 ERRORS = {
     "EPERM": "the caller has no right to this console",
     "ESRCH": "the caller or the target doesn't live",
@@ -21,6 +23,8 @@ REQUESTS = {
     "getcode": "KDGETKEYCODE", "accept": "KDSIGACCEPT", "setmap": "PIO_UNISCRNMAP", "getmap": "GIO_UNISCRNMAP",
     "setpal": "PIO_CMAP", "getpal": "GIO_CMAP",
 }  # fmt: skip
+# The characters of a written text that a sentence has.
+MOST_WRITTEN = 60
 RELEASES = {"0": "keep the display", "1": "let the display go", "2": "acknowledge that it has the display"}
 
 
@@ -44,6 +48,15 @@ def mode_words(words):
     return f"VT_PROCESS, release signal {words[2]}, acquire signal {words[3]}"
 
 
+def written(digits):
+    """The text of a write, and how many bytes it has; a long one is cut."""
+    given = b"" if digits == "-" else bytes.fromhex(digits)
+    text = escaped(given)
+    if len(text) > MOST_WRITTEN:
+        text = text[:MOST_WRITTEN] + " .."
+    return f'"{text}", {counted(len(given), "byte")}'
+
+
 def call_words(call):
     """A call in words."""
     name, *words = call.split(" ")
@@ -58,14 +71,14 @@ def call_words(call):
             "setkd": lambda: {"0": "KD_TEXT", "1": "KD_GRAPHICS"}.get(words[1], words[1]),
             "kill": lambda: f"signal {words[1]} for p{words[0]}",
             "open": lambda: "the console in front" if words[0] == "0" else f"console {words[0]}",
-            "write": lambda: counted(0 if words[1] == "-" else len(words[1]) // 2, "byte"),
+            "write": lambda: written(words[1]),
             "waitinput": lambda: "to wait for input",
             "waitsignal": lambda: "to wait for a signal",
             "waitend": lambda: "the result of the wait",
             "signals": lambda: "to take the pending signals",
             "scan": lambda: f"byte {words[0]} of the keyboard",
         }[name]()
-    except (KeyError, IndexError):
+    except (KeyError, IndexError, ValueError):
         return known or name
     return f"{known}: {meant}" if known else f"{name}: {meant}"
 

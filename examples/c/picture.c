@@ -2,7 +2,7 @@
 #include "picture.h"
 #include "cells.h"
 
-enum { WIDTH = 8, HEIGHT = 16, BASE_LINE = 12, CURSOR_LINE = 14, CURSOR_HEIGHT = 2 };
+enum { WIDTH = 8, HEIGHT = 15, BASE_LINE = 11, CURSOR_LINE = 13, CURSOR_HEIGHT = 2 };
 
 static struct vt_colour colour_of(struct vt_screen *screen, unsigned colour)
 {
@@ -29,6 +29,37 @@ static void print_character(FILE *file, uint32_t code)
     }
 }
 
+/* Whether the cell is neither a space nor a part of a frame. */
+static bool is_letter(uint32_t code)
+{
+    return code != ' ' && (code < 0x2500 || code > 0x259F);
+}
+
+/* The place after the word that begins at x: letters, or cells with the same character. */
+static int word_end(const struct vt_cell *cells, int x, int end)
+{
+    uint32_t first = cells[x].code;
+    while (x < end && (cells[x].code == first || (is_letter(cells[x].code) && is_letter(first))))
+        x++;
+    return x;
+}
+
+/* A word of a run, with the left edge of each cell. Spaces need no place. */
+static void print_word(FILE *file, int x, int end, const struct vt_cell *cells)
+{
+    bool is_blank = cells[x].code == ' ';
+    if (!is_blank) {
+        fprintf(file, "<tspan x='%d", WIDTH * x);
+        for (int i = x + 1; i < end; i++)
+            fprintf(file, " %d", WIDTH * i);
+        fputs("'>", file);
+    }
+    for (int i = x; i < end; i++)
+        print_character(file, cells[i].code);
+    if (!is_blank)
+        fputs("</tspan>", file);
+}
+
 /* Cells of one row and of one look: one rectangle and one text. */
 static void print_run(FILE *file, struct vt_screen *screen, bool reverse, int y, int x, int count,
                       const struct vt_cell *cells)
@@ -37,17 +68,21 @@ static void print_run(FILE *file, struct vt_screen *screen, bool reverse, int y,
     unsigned attr = reverse ? reversed(cells[x].attr) : cells[x].attr;
     struct vt_colour ink = colour_of(screen, attr % 16);
     print_rectangle(file, WIDTH * x, HEIGHT * y, WIDTH * count, HEIGHT, colour_of(screen, attr / 16 % 8));
-    fprintf(file, "<text x='%d' y='%d' textLength='%d' fill='#%02x%02x%02x'%s>", WIDTH * x, HEIGHT * y + BASE_LINE,
-            WIDTH * count, ink.red, ink.green, ink.blue, classes[(attr % 16 > 8) + 2 * (attr >> 7)]);
-    for (int i = x; i < x + count; i++)
-        print_character(file, cells[i].code);
+    fprintf(file, "<text x='%d' y='%d' fill='#%02x%02x%02x'%s>", WIDTH * x, HEIGHT * y + BASE_LINE, ink.red, ink.green,
+            ink.blue, classes[(attr % 16 > 8) + 2 * (attr >> 7)]);
+    for (int i = x, next; i < x + count; i = next) {
+        next = word_end(cells, i, x + count);
+        print_word(file, i, next, cells);
+    }
     fputs("</text>\n", file);
 }
 
-/* Whether the cell at x is the left half of a character of two columns, or the right one. */
-static bool is_wide(const struct vt_cell *cells, int x, int cols)
+/* Whether the cell at x is a character of one column, and one unit of UTF-16, in which SVG counts characters. The soft
+ * hyphen takes no column. */
+static bool is_narrow(const struct vt_cell *cells, int x, int cols)
 {
-    return cells[x].code == VT_HALF || (x + 1 < cols && cells[x + 1].code == VT_HALF);
+    bool is_half = cells[x].code == VT_HALF || (x + 1 < cols && cells[x + 1].code == VT_HALF);
+    return !is_half && cells[x].code != 0xAD && cells[x].code < 0x10000;
 }
 
 static void print_row(FILE *file, struct vt_screen *screen, const struct vt_state *state, int y)
@@ -57,8 +92,8 @@ static void print_row(FILE *file, struct vt_screen *screen, const struct vt_stat
     for (int x = 0, next; x < state->cols; x = next) {
         next = x + 1;
         while (next < state->cols &&
-               (cells[next].code == VT_HALF || (!is_wide(cells, next - 1, state->cols) &&
-                                                !is_wide(cells, next, state->cols) &&
+               (cells[next].code == VT_HALF || (is_narrow(cells, next - 1, state->cols) &&
+                                                is_narrow(cells, next, state->cols) &&
                                                 cells[next].attr == cells[x].attr)))
             next++;
         print_run(file, screen, state->reverse, y, x, next - x, cells);
@@ -72,7 +107,7 @@ void write_picture(FILE *file, struct vt_screen *screen)
     if (vt_screen_state(screen, &state) != VT_OK)
         return;
     fprintf(file,
-            "<svg xmlns='http://www.w3.org/2000/svg' xml:space='preserve' font-family='monospace' font-size='13'"
+            "<svg xmlns='http://www.w3.org/2000/svg' xml:space='preserve' font-family='monospace' font-size='13.3'"
             " shape-rendering='crispEdges' width='%d' height='%d'>\n",
             WIDTH * state.cols, HEIGHT * state.rows);
     fprintf(file, "<title>A screen of %d rows and %d columns</title>\n", state.rows, state.cols);

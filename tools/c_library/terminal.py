@@ -111,11 +111,11 @@ def check_drawing(bench, vt, program):
 
 def check_picture(bench, program):
     """The picture of a recording is the stored one, which crates/example_picture drew."""
-    picture, recording = bench.folder / "monitor.svg", TOP / "examples/recordings/monitor"
+    picture, recording = bench.folder / "files.svg", TOP / "examples/pictures/files"
     terminal = Terminal([program, "--picture", picture, "sh", "-c", f"stty -opost; cat {recording}"], 25, 80)
     bench.holds(terminal.end() == 0, "term.c draws a recording")
-    stored = (TOP / "docs/monitor.svg").read_bytes()
-    bench.holds(picture.read_bytes() == stored, "the picture of the recording is docs/monitor.svg")
+    stored = (TOP / "docs/files.svg").read_bytes()
+    bench.holds(picture.read_bytes() == stored, "the picture of the recording is docs/files.svg")
 
 
 def turned(attribute):

@@ -1,2 +1,2 @@
-mod RunEnds
+mod Groups
 mod Texts

@@ -1,52 +1,72 @@
--- A screen as a picture in SVG 1.1. Each run of a row is a rectangle in its background and a text over it.
--- The choice of elements is this project's own.
-use Rattle.std.specs.Prelude.{ℕ, suc, ◌+◌, ◌*◌, List, [], ◌∷◌, ◌++◌, codes, decimal, length, slice_index_or, if◌then◌else◌}
+-- A screen as a picture in SVG 1.1. Each run of a row is a rectangle in its background and a text over it, in
+-- which each word has the places of its cells. The choice of elements is this project's own.
+use Rattle.std.specs.Prelude.{ℕ, zero, suc, ◌+◌, ◌-◌, ◌*◌, List, [], ◌∷◌, ◌++◌, codes, decimal, length, slice_index_or, if◌then◌else◌}
 use Rattle.std.specs.List.{flat_map}
 use Rattle.vt_cells.specs.declared.cell.Cell.{Cell}
 use Rattle.vt_picture.specs.Characters.{cell_text}
 use Rattle.vt_picture.specs.Colours.{attribute, background, classes, foreground}
-use Rattle.vt_picture.specs.Runs.{runs}
+use Rattle.vt_picture.specs.Runs.{is_blank, runs, words}
 use Rattle.vt_picture.specs.Svg.{fill_attribute, number_attribute, rectangle}
 use Rattle.vt_grid.specs.Grid.{GridView, row_at}
 use Rattle.vt_screen.specs.Screen.{Screen, start_blank}
 use Rattle.vt_screen.specs.declared.screen_state.ScreenState.{ScreenState}
 
--- a cell's width and height
+-- a cell's width and height: those of most fonts at the size that `opening_tag` has, so that frames are joined
 abbrev pub cell_width : ℕ
 cell_width = 8
 
 abbrev pub cell_height : ℕ
-cell_height = 16
+cell_height = 15
 
 -- how far below the top of a cell the characters stand
 abbrev pub base_line : ℕ
-base_line = 12
+base_line = 11
 
 -- how far below the top of its cell the cursor's line begins, and how high it is
 abbrev pub cursor_line : ℕ
-cursor_line = 14
+cursor_line = 13
 
 abbrev pub cursor_height : ℕ
 cursor_height = 2
 
--- the tag of a text in row y from column x on, as wide as so many cells
-unfoldable pub letters_tag : ScreenState → ℕ → ℕ → ℕ → ℕ → List ℕ
-letters_tag state y x count attr =
+-- the first cell of a run or of a word, which has at least one
+abbrev pub first_cell : List Cell → Cell
+first_cell cells = slice_index_or cells 0 start_blank
+
+-- the left edges of so many cells next to each other, of which the first is in column x
+abbrev pub edges : ℕ → ℕ → List ℕ
+edges x zero = []
+edges x (suc count) = codes " " ++ (decimal (cell_width * x) ++ edges (suc x) count)
+
+-- the tag of a word of so many cells from column x on: the left edge of each of them
+unfoldable pub word_tag : ℕ → ℕ → List ℕ
+word_tag x count =
+    codes "<tspan x='" ++ (decimal (cell_width * x) ++ (edges (suc x) (count - 1) ++ codes "'>"))
+
+-- a word from column x on; spaces need no place
+unfoldable pub word_text : ℕ → List Cell → List ℕ
+word_text x word =
+    if is_blank (first_cell word) then flat_map cell_text word
+    else word_tag x (length word) ++ (flat_map cell_text word ++ codes "</tspan>")
+
+-- words next to each other, of which the first begins in column x
+abbrev pub words_text : ℕ → List (List Cell) → List ℕ
+words_text x [] = []
+words_text x (word ∷ more) = word_text x word ++ words_text (x + length word) more
+
+-- the tag of a text in row y from column x on
+unfoldable pub letters_tag : ScreenState → ℕ → ℕ → ℕ → List ℕ
+letters_tag state y x attr =
     codes "<text"
     ++ (number_attribute (codes "x") (cell_width * x)
     ++ (number_attribute (codes "y") (cell_height * y + base_line)
-    ++ (number_attribute (codes "textLength") (cell_width * count)
     ++ (fill_attribute (foreground state attr)
-    ++ (classes attr ++ codes ">")))))
+    ++ (classes attr ++ codes ">"))))
 
 -- the text of a run in row y from column x on
 unfoldable pub letters_text : ScreenState → ℕ → ℕ → List Cell → ℕ → List ℕ
 letters_text state y x run attr =
-    letters_tag state y x (length run) attr ++ (flat_map cell_text run ++ codes "</text>\n")
-
--- the first cell of a run, which has at least one
-abbrev pub first_cell : List Cell → Cell
-first_cell run = slice_index_or run 0 start_blank
+    letters_tag state y x attr ++ (words_text x (words run) ++ codes "</text>\n")
 
 -- a run in row y from column x on, with the attribute of its first cell
 unfoldable pub run_text : ScreenState → ℕ → ℕ → List Cell → List ℕ
@@ -103,7 +123,7 @@ style =
 unfoldable pub opening_tag : GridView → List ℕ
 opening_tag g =
     codes "<svg xmlns='http://www.w3.org/2000/svg' xml:space='preserve'"
-    ++ (codes " font-family='monospace' font-size='13' shape-rendering='crispEdges'"
+    ++ (codes " font-family='monospace' font-size='13.3' shape-rendering='crispEdges'"
     ++ (number_attribute (codes "width") (cell_width * g.cols)
     ++ (number_attribute (codes "height") (cell_height * g.rows)
     ++ codes ">\n")))

@@ -10,7 +10,7 @@ use vt_base::{Bytes, NoMemory};
 use vt_screen::Emu;
 
 /// How far below the top of its cell the cursor's line begins.
-const CURSOR_LINE: u16 = 14;
+const CURSOR_LINE: u16 = 13;
 
 /// How high the cursor's line is.
 const CURSOR_HEIGHT: u16 = 2;

@@ -10,9 +10,9 @@ use std::alloc::Global;
 use vt_base::{Bytes, NoMemory};
 use vt_screen::Emu;
 
-/// The screen as a picture in SVG 1.1, a text in UTF-8. A cell is 8 units wide and 16 units high. Each run of
-/// cells is a rectangle and a text in the colours of the screen's palette, and the cursor is a line at the bottom
-/// of its cell. This project's own.
+/// The screen as a picture in SVG 1.1, a text in UTF-8. A cell is 8 units wide and 15 units high. Each run of
+/// cells is a rectangle and a text in the colours of the screen's palette, in which each word has the left edges
+/// of its cells, and the cursor is a line at the bottom of its cell. This project's own.
 pub fn picture(alloc: Global, emu: &Emu) -> Result<Bytes, NoMemory>
     ensures { IfOk result (λ text. text.bytes ≡ picture_text emu.now.state) }
 {

@@ -32,7 +32,7 @@ fn add_opening_tag(alloc: Global, text: &mut Bytes, g: &Grid) -> Result<(), NoMe
     add(
         alloc,
         text,
-        b" font-family='monospace' font-size='13' shape-rendering='crispEdges'",
+        b" font-family='monospace' font-size='13.3' shape-rendering='crispEdges'",
     )?;
     add_numbered(alloc, text, b"width", CELL_WIDTH * u16::from(size.cols))?;
     add_numbered(alloc, text, b"height", CELL_HEIGHT * u16::from(size.rows))?;

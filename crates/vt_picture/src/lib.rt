@@ -7,6 +7,7 @@ mod colours;
 mod cursor;
 mod drawing;
 mod head;
+mod letters;
 mod rows;
 mod runs;
 

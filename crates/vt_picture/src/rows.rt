@@ -1,14 +1,12 @@
 //! The rows of the screen, run by run.
 ghost use Rattle.std.specs.Prelude.{◌≡◌, ◌+◌, ◌<◌, ◌≤◌, ◌++◌, drop, take, OnOk};
-ghost use Rattle.std.specs.List.{flat_map};
 ghost use Rattle.vt_grid.specs.Grid.{row_at};
-ghost use Rattle.vt_picture.specs.Characters.{cell_text};
-ghost use Rattle.vt_picture.specs.Picture.{letters_tag, letters_text, rows_text, run_text, runs_text};
+ghost use Rattle.vt_picture.specs.Picture.{rows_text, run_text, runs_text};
 ghost use Rattle.vt_picture.specs.Runs.{runs};
 
-use crate::adding::{add, add_filled_with, add_numbered, add_rectangle};
-use crate::characters::add_cell;
-use crate::colours::{attribute, background, classes, foreground};
+use crate::adding::add_rectangle;
+use crate::colours::{attribute, background};
+use crate::letters::add_letters;
 use crate::runs::run_length;
 use std::alloc::Global;
 use vt_base::{Bytes, NoMemory};
@@ -19,10 +17,7 @@ use vt_screen::ScreenState;
 pub(crate) const CELL_WIDTH: u16 = 8;
 
 /// The height of a cell.
-pub(crate) const CELL_HEIGHT: u16 = 16;
-
-/// How far below the top of a cell its character stands.
-const BASE_LINE: u16 = 12;
+pub(crate) const CELL_HEIGHT: u16 = 15;
 
 /// Adds the rows from top to bottom.
 #[tactic(auto, using(crate::proofs::Texts::rows_more))]
@@ -94,69 +89,4 @@ fn add_run(
         background(state, attr),
     )?;
     add_letters(alloc, text, state, g, y, x, count, attr)
-}
-
-#[tactic(auto, using(crate::proofs::Texts::within_rows), unfolding(crate::specs::Picture::letters_text))]
-fn add_letters(
-    alloc: Global,
-    text: &mut Bytes,
-    state: &ScreenState,
-    g: &Grid,
-    y: u8,
-    x: u8,
-    count: u8,
-    attr: u8,
-) -> Result<(), NoMemory>
-    requires row { y < g.now.rows }
-    requires within { x + count ≤ g.now.cols }
-    ensures { OnOk result
-        (text.new.bytes
-        ≡ text.old.bytes ++ letters_text state.now y x (take count (drop x (row_at g.now y))) attr) }
-{
-    g.stays_full();
-    add_letters_tag(alloc, text, state, y, x, count, attr)?;
-    add_cells(alloc, text, g, y, x, count)?;
-    add(alloc, text, b"</text>\n")
-}
-
-#[tactic(auto, unfolding(crate::specs::Picture::letters_tag))]
-fn add_letters_tag(
-    alloc: Global,
-    text: &mut Bytes,
-    state: &ScreenState,
-    y: u8,
-    x: u8,
-    count: u8,
-    attr: u8,
-) -> Result<(), NoMemory>
-    ensures { OnOk result (text.new.bytes ≡ text.old.bytes ++ letters_tag state.now y x count attr) }
-{
-    add(alloc, text, b"<text")?;
-    add_numbered(alloc, text, b"x", CELL_WIDTH * u16::from(x))?;
-    add_numbered(alloc, text, b"y", CELL_HEIGHT * u16::from(y) + BASE_LINE)?;
-    add_numbered(alloc, text, b"textLength", CELL_WIDTH * u16::from(count))?;
-    add_filled_with(alloc, text, foreground(state, attr))?;
-    add(alloc, text, classes(attr))?;
-    add(alloc, text, b">")
-}
-
-fn add_cells(
-    alloc: Global,
-    text: &mut Bytes,
-    g: &Grid,
-    y: u8,
-    x: u8,
-    count: u8,
-) -> Result<(), NoMemory>
-    requires row { y < g.now.rows }
-    requires within { x + count ≤ g.now.cols }
-    ensures { OnOk result
-        (text.new.bytes
-        ≡ text.old.bytes ++ flat_map cell_text (take count (drop x (row_at g.now y)))) }
-{
-    g.stays_full();
-    for i in 0..count {
-        add_cell(alloc, text, g.at(y, x + i))?;
-    }
-    Ok(())
 }

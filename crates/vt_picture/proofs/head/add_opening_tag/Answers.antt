@@ -11,7 +11,7 @@ returns c =
     let wide : c.add_numbered.new.text.bytes ≡ c.add-2.new.text.bytes ++ number_attribute (codes "width") (8 * c.args.g.now.cols) =
     cc (c.in_ok-add_numbered.ensures) in
     let high : c.add_numbered-2.new.text.bytes
-    ≡ c.add_numbered.new.text.bytes ++ number_attribute (codes "height") (16 * c.args.g.now.rows) =
+    ≡ c.add_numbered.new.text.bytes ++ number_attribute (codes "height") (15 * c.args.g.now.rows) =
     cc (c.in_ok-add_numbered-2.ensures) in
     on_ok_weaker c.add-3.result
     (λ (end : c.add-3.new.text.bytes ≡ c.add_numbered-2.new.text.bytes ++ codes ">\n").

@@ -3,7 +3,7 @@ use Rattle.std.proofs.lemmas.Grind.{common_steps}
 use Rattle.vt_cells.specs.declared.cell.Cell.{Cell}
 use Rattle.vt_grid.specs.Grid.{row_at}
 use Rattle.vt_picture.specs.Runs.{are_joined}
-use Rattle.vt_picture.proofs.RunEnds.{JoinedFrom, run_before, run_last}
+use Rattle.vt_picture.proofs.Groups.{JoinedFrom, group_before, group_last}
 use Rattle.vt_picture.proofs.Texts.{row_long}
 use Rattle.vt_picture.proofs.runs.run_length.Goals as goal
 
@@ -13,7 +13,7 @@ returns-then-not-are_joined-clause-run c =
     let next : ℕ = c.loop-next.next in
     let long : length row ≡ c.args.g.now.cols = row_long c.args.g.now c.args.y c.size-cols.ensures.full c.requires.row in
     let no : are_joined c.at.result c.at-in-loop-next.result ≡ false = grind (arith, common_steps) in
-    run_before row c.args.x (next - 1) next c.at.result c.at-in-loop-next.result (omega arith) (omega arith) (omega arith)
+    group_before are_joined row c.args.x (next - 1) next c.at.result c.at-in-loop-next.result (omega arith) (omega arith) (omega arith)
     c.loop-next.invariant c.at.ensures c.at-in-loop-next.ensures no
 
 pub returns-clause-run : goal.returns-clause-run
@@ -22,5 +22,5 @@ returns-clause-run c =
     let cols : ℕ = c.size-cols.result.cols in
     let long : length row ≡ c.args.g.now.cols = row_long c.args.g.now c.args.y c.size-cols.ensures.full c.requires.row in
     let same : c.loop-next.next ≡ cols = omega arith in
-    run_last row c.args.x (cols - 1) cols (omega arith) (omega arith) (omega arith)
-    (subst (JoinedFrom row c.args.x) same c.loop-next.invariant)
+    group_last are_joined row c.args.x (cols - 1) cols (omega arith) (omega arith) (omega arith)
+    (subst (JoinedFrom are_joined row c.args.x) same c.loop-next.invariant)

@@ -2,7 +2,7 @@ use Rattle.std.proofs.Common.{◌≡◌, ◌++◌, drop, take}
 use Rattle.std.specs.List.{flat_map}
 use Rattle.vt_grid.specs.Grid.{row_at}
 use Rattle.vt_picture.specs.Characters.{cell_text}
-use Rattle.vt_picture.proofs.rows.add_cells.Given as goal
+use Rattle.vt_picture.proofs.letters.add_cells.Given as goal
 
 abbrev pub invariant-loop-i : goal.invariant-loop-i
 invariant-loop-i l =

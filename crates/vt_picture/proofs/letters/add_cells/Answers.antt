@@ -3,7 +3,7 @@ use Rattle.vt_cells.specs.declared.cell.Cell.{Cell}
 use Rattle.vt_grid.specs.Grid.{row_at}
 use Rattle.vt_picture.specs.Characters.{cell_text}
 use Rattle.vt_picture.proofs.Texts.{cells_more, run_cell}
-use Rattle.vt_picture.proofs.rows.add_cells.Goals as goal
+use Rattle.vt_picture.proofs.letters.add_cells.Goals as goal
 
 pub loop-i-preserved : goal.loop-i-preserved
 loop-i-preserved c =
