@@ -110,16 +110,17 @@ class Program:
         self.stop()
         return CaseFault(f"died: it ended with {status}")
 
-    def exchange(self, line):
-        """Writes a line and reads one."""
-        until = time.monotonic() + self.seconds
+    def exchange(self, line, seconds=None):
+        """Writes a line and reads one, within the program's limit or another one."""
+        seconds = seconds or self.seconds
+        until = time.monotonic() + seconds
         into, out = self.process.stdin.fileno(), self.process.stdout.fileno()
         while b"\n" not in self.left:
             rest = until - time.monotonic()
             readable, writable, _ = select.select([out], [into] if line else [], [], max(rest, 0))
             if not readable and not writable:
                 self.stop()
-                raise CaseFault(f"hangs: no answer within {self.seconds:g} s")
+                raise CaseFault(f"hangs: no answer within {seconds:g} s")
             try:
                 if readable:
                     read = os.read(out, 65536)
@@ -150,19 +151,23 @@ class Program:
                 self.stop()
             raise
 
+    def asked_in_turn(self, cases):
+        """The answer or the `CaseFault` of each case, in their order; the program goes on."""
+        hangs = 0
+        for case in cases:
+            if hangs == HANGS_IN_A_ROW:
+                yield CaseFault(f"not run: it hung in {HANGS_IN_A_ROW} cases one after another")
+                continue
+            try:
+                yield self.ask(case)
+                hangs = 0
+            except CaseFault as fault:
+                hangs = hangs + 1 if str(fault).startswith("hangs") else 0
+                yield fault
+
     def answers(self, cases):
         """The answer or the `CaseFault` of each case, in their order."""
-        hangs = 0
         try:
-            for case in cases:
-                if hangs == HANGS_IN_A_ROW:
-                    yield CaseFault(f"not run: it hung in {HANGS_IN_A_ROW} cases one after another")
-                    continue
-                try:
-                    yield self.ask(case)
-                    hangs = 0
-                except CaseFault as fault:
-                    hangs = hangs + 1 if str(fault).startswith("hangs") else 0
-                    yield fault
+            yield from self.asked_in_turn(cases)
         finally:
             self.stop()

@@ -7,6 +7,7 @@ The program is kernel_init.c. It prints a line `kernel ..` with the kernel's ver
 
 Numbers of the map and bytes are spelled in hexadecimal, and `-` stands for no bytes.
 """
+import atexit
 import pathlib
 import re
 import shutil
@@ -22,6 +23,7 @@ INIT = pathlib.Path(__file__).resolve().parent / "kernel_init.c"
 QEMU = "qemu-system-x86_64"
 MACHINE = "-machine pc,accel=tcg -m 256 -smp 1 -nodefaults -net none -no-reboot -display none -vga std".split()
 STREAMS = ["-serial", "stdio", "-monitor", "none"]
+BOOT_WORDS = "quiet panic=-1 console=tty0"
 BOOT_SECONDS = 120
 DIRECTORY, FILE, DEVICE = 0o040755, 0o100755, 0o020600
 CONSOLE = (5, 1)
@@ -44,13 +46,13 @@ def compiled(folder):
     """The program that is all of the machine."""
     compiler = shutil.which("cc") or shutil.which("gcc")
     if not compiler:
-        raise Fault(f"linux: a C compiler was wanted for {INIT}")
+        raise Fault(f"{INIT}: a C compiler was wanted for it")
     built = pathlib.Path(folder) / "init"
     words = [compiler, "-O2", "-static", "-o", built, INIT]
     ran = subprocess.run(words, capture_output=True, text=True, check=False)
     if ran.returncode:
         why = ran.stderr.strip().splitlines()[:1] or ["no reason"]
-        raise Fault(f"linux: {INIT} wasn't compiled, as a static program: {why[0]}")
+        raise Fault(f"{INIT}: a static program was wanted of it, and it wasn't compiled: {why[0]}")
     return built.read_bytes()
 
 
@@ -64,26 +66,29 @@ class Kernel(Program):
 
     def __init__(self, path, seconds=SECONDS):
         if not pathlib.Path(path).is_file():
-            raise Fault(f"--kernel {path}: the file of a Linux kernel was wanted, as vmlinuz of Debian's linux-image-amd64")
+            raise Fault(f"{path}: the file of a Linux kernel was wanted, as vmlinuz of Debian's linux-image-amd64")
         if not shutil.which(QEMU):
-            raise Fault(f"--kernel {path}: the program {QEMU} was wanted (Debian's package qemu-system-x86)")
-        super().__init__("kernel", [QEMU, *MACHINE, *STREAMS, "-kernel", str(path), "-append", "quiet console=tty0"], seconds)
-        self.version, self.glyphs, self.folder = None, None, None
+            raise Fault(f"{path}: the program {QEMU} was wanted to run it (Debian's package qemu-system-x86)")
+        super().__init__("kernel", [], seconds)
+        self.path, self.version, self.glyphs, self.folder = path, None, {}, None
+        atexit.register(self.stop)
 
     def start(self):
         """Starts the machine, waits for its program, and gives it the font map."""
         self.folder = tempfile.TemporaryDirectory()
         system = pathlib.Path(self.folder.name) / "system"
         system.write_bytes(archive(compiled(self.folder.name)))
-        limit, words = self.seconds, self.words
-        self.seconds, self.words = BOOT_SECONDS, [*words, "-initrd", str(system)]
+        boot = ["-kernel", str(self.path), "-initrd", str(system), "-append", BOOT_WORDS]
+        self.words = [QEMU, *MACHINE, *STREAMS, *boot]
+        super().start()
+        pairs = "".join(f" {code:x} {glyph:x}" for code, glyph in self.glyphs.items())
         try:
-            super().start()
-            self.version = self.exchange(b"").removeprefix("kernel ").strip()
-            pairs = " ".join(f"{code:x} {glyph:x}" for code, glyph in self.glyphs.items())
-            self.exchange(f"map {pairs}\n".encode())
-        finally:
-            self.seconds, self.words = limit, words
+            word, _, self.version = self.exchange(b"", BOOT_SECONDS).strip().partition(" ")
+            answer = self.exchange(f"map{pairs}\n".encode()).strip()
+        except CaseFault as fault:
+            raise Fault(f"{self.path}: a kernel that starts {INIT.name} was wanted: {fault}") from None
+        if (word, answer) != ("kernel", f"map {len(self.glyphs)}"):
+            raise Fault(f"{self.path}: the lines of {INIT.name} were wanted, and there is {word!r} and {answer[:60]!r}")
 
     def stop(self):
         """Ends the machine, and removes its folder."""
@@ -100,12 +105,15 @@ class Kernel(Program):
             self.start()
         pieces = " ".join(hexadecimal(piece) for piece in case.pieces())
         line = self.exchange(f"case {case.rows} {case.columns} {pieces}\n".encode()).strip()
+        if line.startswith("refuses"):
+            raise CaseFault(line)
         if not re.fullmatch(r"[0-9a-f]+ [0-9a-f]+ ([0-9a-f]+|-)", line):
-            raise CaseFault(line if line.startswith("refuses") else f"nonsense: {line[:60]!r}")
+            self.stop()
+            raise CaseFault(f"nonsense: three words of bytes were wanted, and there is {line[:60]!r}")
         shown, codes, reports = (b"" if word == "-" else bytes.fromhex(word) for word in line.split())
         return answer_of(case, shown, codes, reports, self.glyphs)
 
     def answers(self, cases):
-        """The answer or the `CaseFault` of each case, in their order."""
-        self.glyphs = glyphs_of(cases)
-        return super().answers(cases)
+        """The answer or the `CaseFault` of each case, in their order. The machine goes on until this program ends."""
+        self.glyphs = self.glyphs or glyphs_of(cases)
+        return self.asked_in_turn(cases)

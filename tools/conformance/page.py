@@ -1,8 +1,10 @@
 """A page of the cases that differ, whole in itself: bytes in words, the paragraph, the screens, what differs in words."""
+import unicodedata
 from html import escape
 from itertools import groupby
 
 from .compare import DIFFERING, KINDS, LINUX, counts_of, groups_of
+from .judge import PLAIN
 from .vcs import ALONE, is_wide
 from .words import bytes_of, in_words, part_in_words
 
@@ -19,45 +21,58 @@ u { text-decoration-color: #fc3; text-decoration-thickness: 3px } .k { font-styl
 figure { display: inline-block; margin: 0 } figcaption { font-weight: bold } code { overflow-wrap: anywhere }
 """
 STYLE += "".join(f".f{n} {{ color: #{colour} }} .b{n} {{ background: #{colour} }}\n" for n, colour in enumerate(COLOURS))
-ABOUT = """<p>Cells that differ from the wanted ones in character or attributes have a frame; the cursor's cell is
-underlined. Blinking characters are slanted, since nothing blinks here. A case counts as page if console_codes(4) or a
-standard decides it, as own if a rule of vt's own does, and as linux if a Linux console has another value too in each
-part that differs. Then its screen is the last one.</p>"""
+ABOUT = """<p>Cells that differ in character or attributes have a frame, the cursor's cell is underlined, and blinking
+characters are slanted. A case that differs counts as linux if a Linux console has another value too in each part that
+differs; otherwise as page if console_codes(4) or a standard decides it, and as own if a rule of vt's own does. If a
+Linux console showed another screen, it is the third one.</p>"""
 
 
-def cells_of(row, columns):
-    """The cells of a row: the characters, nothing in the second cell of a wide one, blanks to its end."""
+def cells_of(row, columns, has_joined):
+    """The cells of a row: characters, nothing in the second cell of a wide one, blanks to its end.
+
+    An engine's combining characters are in the cell before them; on a Linux console each has a cell.
+    """
     cells = []
     for place, character in enumerate(row):
         is_alone = row[place + 1 : place + 2] == ALONE
-        if character != ALONE:
+        if has_joined and unicodedata.combining(character) and cells:
+            cells[-1] += character
+        elif character != ALONE:
             cells += [character, ""] if is_wide(character) and not is_alone else [character]
     return cells + [" "] * (columns - len(cells))
 
 
-def drawn(byte, is_different, is_cursor, text):
-    """Cells of one pen as HTML."""
-    shown = "".join(cell if cell.isprintable() else "?" for cell in text)
-    made = f"<u>{escape(shown)}</u>" if is_cursor else escape(shown)
-    if byte != 7:
+class Screen:
+    """A screen of the page: its name, its cells, their attribute bytes and its cursor."""
+
+    def __init__(self, name, after, case):
+        self.name, self.cursor = name, after["cursor"]
+        self.rows = [cells_of(row, case.columns, name != LINUX)[: case.columns] for row in after["text"]]
+        self.pens = bytes_of(after["attributes"], case.rows, case.columns)
+
+    def kind_of(self, y, x, other):
+        """What decides how a cell is drawn: its pen, whether it differs from that of the other screen, the cursor."""
+        differs = self.rows[y][x] != other.rows[y][x] or self.pens[y][x] != other.pens[y][x]
+        return self.pens[y][x], differs, self.cursor == [y, x]
+
+    def html(self, other):
+        """The screen as HTML, with a frame around the cells that differ from those of the other one."""
+        lines = []
+        for y, row in enumerate(self.rows):
+            runs = groupby(range(len(row)), key=lambda x, y=y: self.kind_of(y, x, other))
+            lines.append("".join(drawn(*kind, [row[x] for x in places]) for kind, places in runs))
+        rows = "\n".join(lines)
+        return f"<figure><figcaption>{escape(self.name)}</figcaption><pre>{rows}</pre></figure>"
+
+
+def drawn(byte, is_different, is_cursor, cells):
+    """Cells of one kind as HTML."""
+    shown = escape("".join(cell if cell.isprintable() else "?" for cell in cells))
+    shown = f"<u>{shown}</u>" if is_cursor else shown
+    if byte != PLAIN:
         blinks = " k" if byte >> 7 else ""
-        made = f'<span class="f{byte & 15} b{byte >> 4 & 7}{blinks}">{made}</span>'
-    return f"<mark>{made}</mark>" if is_different else made
-
-
-def screen(mine, other, case):
-    """A screen as HTML, with a frame around the cells that differ from the other one."""
-    lines = []
-    pens, others = (bytes_of(it["attributes"], case.rows, case.columns) for it in (mine, other))
-    for y in range(case.rows):
-        cells, beside = (cells_of(it["text"][y], case.columns) for it in (mine, other))
-        kinds = []
-        for x in range(case.columns):
-            differs = cells[x] != (beside[x : x + 1] or [None])[0] or pens[y][x] != others[y][x]
-            kinds.append((pens[y][x], differs, mine.get("cursor") == [y, x]))
-        runs = groupby(range(case.columns), key=kinds.__getitem__)
-        lines.append("".join(drawn(*kind, [cells[x] for x in places]) for kind, places in runs))
-    return "<pre>" + "\n".join(lines) + "</pre>"
+        shown = f'<span class="f{byte & 15} b{byte >> 4 & 7}{blinks}">{shown}</span>'
+    return f"<mark>{shown}</mark>" if is_different else shown
 
 
 def parts_of(result):
@@ -70,11 +85,13 @@ def parts_of(result):
 
 def screens_of(engine, result):
     """The screens of a case: the wanted one, that of the engine, and that of Linux if it is another one."""
-    case, answer = result.case, {**result.case.after, **result.answer}
-    shown = [("wanted", case.after, answer), (engine, answer, case.after)]
-    if case.linux:
-        shown.append((LINUX, {**case.after, **case.linux}, case.after))
-    return [f"<figure><figcaption>{escape(name)}</figcaption>{screen(*two, case)}</figure>" for name, *two in shown]
+    case = result.case
+    wanted = Screen("wanted", case.after, case)
+    found = Screen(engine, {**case.after, **result.answer}, case)
+    yield wanted.html(found)
+    yield found.html(wanted)
+    if case.linux and engine != LINUX:
+        yield Screen(LINUX, {**case.after, **case.linux}, case).html(wanted)
 
 
 def section(engine, result):
