@@ -72,5 +72,6 @@ def cases():
     for name, data in UNFINISHED:
         yield Case(f"unfinished/{name}", f"console_codes(4), {CONTROL}, ESC", ROWS, COLUMNS, data)
     for name, data, own in LIMITS:
-        yield Case(f"limits/{name}", paragraph("console_codes(4), ECMA-48 CSI sequences, CSI", own), ROWS, COLUMNS, data)
+        rules = paragraph("console_codes(4), ECMA-48 CSI sequences, CSI", own)
+        yield Case(f"limits/{name}", rules, ROWS, COLUMNS, data)
     yield from table_cases()

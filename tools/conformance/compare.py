@@ -4,6 +4,7 @@ from dataclasses import dataclass, field
 from .adapters import CaseFault
 from .forms import PARTS
 from .sequences import CONTROLS, ESCAPES, NUMERIC, REST, SWITCHES
+from .vcs import ALONE
 
 SAME, LINUX, NOT_COMPARED = "same", "linux", "not compared"
 # The kinds of results, in the order of the table: a case that differs is of its source's kind, or of LINUX.
@@ -43,8 +44,11 @@ class Result:
 
     @property
     def is_as_linux(self):
-        """Whether a case that differs is as the Linux console shows it."""
-        return self.kind == LINUX and all(self.answer[part] == self.case.linux[part] for part in self.parts)
+        """Whether a case that differs is as the Linux console shows it, whose mark of a wide character no engine has."""
+        if self.kind != LINUX:
+            return False
+        shown = {**self.case.linux, "text": [row.replace(ALONE, "") for row in self.case.linux.get("text", [])]}
+        return all(self.answer[part] in (shown[part], self.case.linux[part]) for part in self.parts)
 
 
 def compared(case, answer):
@@ -94,9 +98,8 @@ def notes(name, found):
     differs = {part: sum(part in it.parts for it in found) for part in PARTS}
     told = [f"{part} in {count}" for part, count in differs.items() if count]
     lines += [f"{name}: differs: {', '.join(told)}"] if told else []
-    count = sum(it.kind == LINUX for it in found)
-    if count:
-        lines.append(f"{name}: as the Linux console: {sum(it.is_as_linux for it in found)} of the {count} cases in linux")
+    count, alike = sum(it.kind == LINUX for it in found), sum(it.is_as_linux for it in found)
+    lines += [f"{name}: as the Linux console: {alike} of the {count} cases in linux"] if count else []
     return [*lines, *faults_of(name, found)]
 
 

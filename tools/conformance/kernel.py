@@ -1,6 +1,6 @@
-"""The console of a Linux kernel in a virtual machine: qemu runs the kernel by software, and one small program in it.
+"""The console of a Linux kernel in a virtual machine: qemu runs the kernel by software, with one small program.
 
-The program is kernel_init.c. It prints a line `kernel ..` with the kernel's version, and then answers each line with one:
+The program is kernel_init.c. It prints a line `kernel ..` with the kernel's version, and then answers each line by one:
 
     map CODE GLYPH ..           the font map of the console; the answer is the same word
     case ROWS COLUMNS PIECE ..  a case; the answer has /dev/vcsa8, /dev/vcsu8 and the reports, or a word and a reason

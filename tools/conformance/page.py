@@ -1,4 +1,4 @@
-"""A page of the cases that differ, whole in itself: bytes in words, the paragraph, the screens, what differs in words."""
+"""A page of the cases that differ, whole in itself: bytes in words, the paragraph, the screens in their colours."""
 import unicodedata
 from html import escape
 from itertools import groupby
@@ -9,7 +9,7 @@ from .vcs import ALONE, is_wide
 from .words import bytes_of, in_words, part_in_words
 
 # The colours of an attribute byte on a VGA, and its bright ones.
-COLOURS = ["000", "00a", "0a0", "0aa", "a00", "a0a", "a50", "aaa", "555", "55f", "5f5", "5ff", "f55", "f5f", "ff5", "fff"]
+COLOURS = "000 00a 0a0 0aa a00 a0a a50 aaa 555 55f 5f5 5ff f55 f5f ff5 fff".split()
 STYLE = """
 body { font: 15px/1.45 sans-serif; max-width: 72em; margin: 2em auto; padding: 0 1em; color: #222; background: #fff }
 table { border-collapse: collapse }
@@ -20,7 +20,7 @@ mark { color: inherit; background: none; outline: 2px solid #f4a; outline-offset
 u { text-decoration-color: #fc3; text-decoration-thickness: 3px } .k { font-style: italic }
 figure { display: inline-block; margin: 0 } figcaption { font-weight: bold } code { overflow-wrap: anywhere }
 """
-STYLE += "".join(f".f{n} {{ color: #{colour} }} .b{n} {{ background: #{colour} }}\n" for n, colour in enumerate(COLOURS))
+STYLE += "".join(f".f{n} {{ color: #{it} }} .b{n} {{ background: #{it} }}\n" for n, it in enumerate(COLOURS))
 ABOUT = """<p>Cells that differ in character or attributes have a frame, the cursor's cell is underlined, and blinking
 characters are slanted. A case that differs counts as linux if a Linux console has another value too in each part that
 differs; otherwise as page if console_codes(4) or a standard decides it, and as own if a rule of vt's own does. If a
@@ -97,8 +97,8 @@ def screens_of(engine, result):
 def section(engine, result):
     """One differing case."""
     case = result.case
-    made = [f"<section><h3>{escape(case.name)}: {escape(engine)}: {result.kind}</h3>", f"<p>{escape(case.paragraph)}</p>"]
-    made.append(f"<p><code>{escape(in_words(case))}</code></p>")
+    made = [f"<section><h3>{escape(case.name)}: {escape(engine)}: {result.kind}</h3>"]
+    made += [f"<p>{escape(case.paragraph)}</p>", f"<p><code>{escape(in_words(case))}</code></p>"]
     if result.fault:
         return "\n".join([*made, f"<p>{escape(result.fault)}</p></section>"])
     return "\n".join([*made, *screens_of(engine, result), *parts_of(result), "</section>"])
@@ -107,7 +107,8 @@ def section(engine, result):
 def summary(results, kinds):
     """The table of sequences and engines."""
     cases = [result.case for found in results.values() for result in found]
-    heads = "".join(f"<th>{escape(name)}: {kinds[0]}" + "".join(f"<th>{kind}" for kind in kinds[1:]) for name in results)
+    others = "".join(f"<th>{kind}" for kind in kinds[1:])
+    heads = "".join(f"<th>{escape(name)}: {kinds[0]}{others}" for name in results)
     rows = [f"<tr><th>sequence{heads}</tr>"]
     for group in [*groups_of(cases), "all"]:
         cells = ""

@@ -1,6 +1,6 @@
 """What a Linux console shows after a case, by the files of vcs(4): glyphs with attributes, and characters.
 
-The file of the characters holds what was written, and not what a table made of it: where they differ, the glyph decides.
+The file of the characters holds what was written, and not what a table made of it. If they differ, the glyph decides.
 """
 import sys
 import unicodedata
@@ -23,7 +23,7 @@ def glyphs_of(cases):
     """A font map for these cases, the glyph of each character: that of a PC, with the others that stand on a screen."""
     glyphs = {ord(bytes([glyph]).decode(FONT)): glyph for glyph in range(0x20, 0x100)} | ARROWS
     wanted = {ord(c) for case in cases for row in case.after["text"] for c in row if 0xFF < ord(c) < STRAIGHT}
-    return glyphs | dict(zip([REPLACEMENT, *sorted(wanted - set(glyphs))], FREE_GLYPHS))
+    return glyphs | dict(zip([REPLACEMENT, *sorted(wanted - set(glyphs))], FREE_GLYPHS, strict=False))
 
 
 def character_of(code, glyph, wanted, glyphs):
