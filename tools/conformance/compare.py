@@ -44,7 +44,7 @@ class Result:
 
     @property
     def is_as_linux(self):
-        """Whether a case that differs is as the Linux console shows it, whose mark of a wide character no engine has."""
+        """Whether a case that differs is as the Linux console shows it, whose marks of halves no engine has."""
         if self.kind != LINUX:
             return False
         shown = {**self.case.linux, "text": [row.replace(ALONE, "") for row in self.case.linux.get("text", [])]}
