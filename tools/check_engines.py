@@ -6,9 +6,9 @@ usage: check_engines.py [--kernel FILE]
 A made adapter answers some cases as the corpus wants them, except for five: the table, `--page`, the exit status, the
 line that counts the answers like those of the Linux console, and the page in HTML have to show these. A slow adapter
 hangs by `--seconds`. Lines that aren't of the form of a case are refused with their place. Cells, rows and attribute
-bytes are those of vcs(4). The figures of the corpus's README are those of the corpus. A made machine in place of qemu
-shows a screen, refuses, ends and answers nonsense. If a kernel is given (and qemu-system-x86_64 is installed), its
-console is asked in 60 cases, and has to show what is recorded.
+bytes are those of vcs(4). The figures of the corpus's README and of the guide are those of the corpus. A made machine
+in place of qemu shows a screen, refuses, ends and answers nonsense. If a kernel is given (and qemu-system-x86_64 is
+installed), its console is asked in 60 cases, and has to show what is recorded.
 
 Prints a line a kind and last 'N passed, M failed'; ends with status 1 if one fails.
 """
@@ -26,10 +26,11 @@ import tempfile
 sys.dont_write_bytecode = True
 
 from conformance import kernel, vcs, words  # noqa: E402: after the line that keeps tools/ clean
-from conformance.forms import CORPUS, Case, Fault, read_corpus  # noqa: E402
+from conformance.forms import CORPUS, RECORDED_ON, TOP, Case, Fault, read_corpus  # noqa: E402
 from conformance.sequences import MACHINE_WIDE  # noqa: E402
 
-ENGINES = pathlib.Path(__file__).resolve().parent / "engines.py"
+ENGINES = TOP / "tools/engines.py"
+GUIDE = TOP / "docs/guide/write-a-terminal.md"
 SECONDS, ASKED = 120, 60
 
 # The made adapter: the answers of its file, by the text of a case.
@@ -130,6 +131,19 @@ def looked_up():
     yield wanted("runs in words", told, expected)
 
 
+def of_files():
+    """The answers that the files of a console make: with a font map, without one, and without characters."""
+    case = Case("a", "b", 1, 3, b"", after={"text": ["─中"]})
+    shown = bytes([1, 3, 2, 0, 0xC4, 0x1E, 0x01, 0x07, 0x20, 0x07])
+    codes = b"".join(code.to_bytes(4, "little") for code in (0x71, 0x4E2D, 0x20))
+    rest = {"cursor": [0, 2], "attributes": [[0, 0, 1, 0x1E]], "reports": "\x1b[0n"}
+    for what, its_codes, glyphs, text in (
+        ("with a font map", codes, MAP, {"text": ["─中"]}), ("without a font map", codes, None, {"text": ["q中"]}),
+        ("without characters", None, None, {}),
+    ):  # fmt: skip
+        yield wanted(what, vcs.answer_of(case, shown, its_codes, b"\x1b[0n", glyphs), {**text, **rest})
+
+
 def corpus():
     """The recording has differences alone, none of cases that change the machine, and the README has its figures."""
     cases = read_corpus([])
@@ -148,8 +162,11 @@ def corpus():
     yield holds("recorded cases", text, counts)
     yield holds("cases that weren't asked", text, f"{len(cases) - len(asked)} cases were left out")
     yield wanted("cases of a page that differ", {case.group for case in other_by_page}, {"TBC"})
-    release = (CORPUS / "linux.txt").read_text(encoding="utf-8").split(" #")[0]
-    yield holds("the kernel", text, release)
+    yield holds("the kernel", text, RECORDED_ON.read_text(encoding="utf-8").split(" #")[0])
+    alike = [len([case for case in asked if case.source == source and not case.linux]) for source in ("page", "own")]
+    guide = " ".join(GUIDE.read_text(encoding="utf-8").split())
+    counts = f"does as `vt` in {sum(alike):,}: in {alike[0]:,} of a page and in {alike[1]:,} with an own rule"
+    yield holds("cases in which Linux does as vt", guide, counts)
 
 
 def without(after, part):
@@ -283,8 +300,8 @@ def main():
     form.add_argument("--kernel", metavar="FILE")
     given = form.parse_args()
     kinds = {
-        "cells, rows and pens": looked_up(), "the corpus": corpus(), "cases that are counted": counted(),
-        "the limit of seconds": hanging(), "cases refused": refused(),
+        "cells, rows and pens": looked_up(), "a console's files": of_files(), "the corpus": corpus(),
+        "cases that are counted": counted(), "the limit of seconds": hanging(), "cases refused": refused(),
         "a made machine": machine() if shutil.which("cc") or shutil.which("gcc") else None,
         "a kernel's console": asked(given.kernel) if given.kernel else None,
     }  # fmt: skip
