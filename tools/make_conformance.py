@@ -14,6 +14,9 @@ import sys
 from dataclasses import replace
 
 sys.dont_write_bytecode = True
+if sys.version_info < (3, 10):
+    print("make_conformance: Python 3.10 or later was wanted", file=sys.stderr)
+    sys.exit(2)
 
 from conformance import cases, judge  # noqa: E402: after the line that keeps tools/ clean
 from conformance.adapters import CaseFault  # noqa: E402
