@@ -1,7 +1,7 @@
 #!/usr/bin/env python3
 """Counts the instructions of the C library beside those of `vt screen`, libvterm and libtsm.
 
-usage: c_library.py VT [--library OUT] [--only KIND,..] [--most RATIO]
+usage: c_library.py VT [--library OUT] [--only KIND,..] [--most RATIO] [--unproved]
 
 OUT is a folder that tools/build_c.sh filled (out/c in the clone). The programs are engines/libvt.c, libvterm.c and
 libtsm.c over the same engines/screen.h, compiled by cc -O3; an engine that isn't installed is left out. Each reads the
@@ -9,7 +9,8 @@ first MiB of the ten kinds of text of inputs.py (`scroll` an eighth, `erase` and
 callgrind counts, less what an empty input takes. `single bytes` is libvt.c with a call for every byte; what that takes
 more than in long pieces is a call's own cost. Prints a table, the greatest ratio to `vt screen`, and what a scan byte
 of `vt_keys_scan` takes for three keys and for a byte that types none (engines/keys.c); the status is 1 if that ratio is
-over RATIO, or if the rows of libvt aren't those of `vt screen`.
+over RATIO, or if the rows of libvt aren't those of `vt screen`. A VT that tools/build.py made without proofs is refused
+without --unproved, with status 2.
 """
 import argparse
 import os
@@ -20,6 +21,10 @@ import tempfile
 
 import inputs
 from screens import instructions, table
+
+sys.path.insert(0, str(pathlib.Path(__file__).resolve().parent.parent / "tools"))
+
+from programs import Missing, to_measure  # noqa: E402: after the line with the folder of the tools
 
 HERE = pathlib.Path(__file__).resolve().parent
 SIZE = ["screen", "25", "80"]
@@ -58,12 +63,18 @@ def main():
     words.add_argument("--library", default=HERE.parent / "out/c", type=pathlib.Path, metavar="OUT")
     words.add_argument("--only", default=",".join(inputs.KINDS), metavar="KIND,..")
     words.add_argument("--most", default=1.04, type=float, metavar="RATIO")
+    words.add_argument("--unproved", action="store_true")
     given = words.parse_args()
+    try:
+        vt = to_measure(given.vt, given.unproved)
+    except Missing as missing:
+        print(f"c_library.py: {missing}", file=sys.stderr)
+        sys.exit(missing.status)
     archive, include = given.library / "lib/libvt.a", f"-I{given.library}/include"
     lines, worst = [], 0.0
     with tempfile.TemporaryDirectory() as name:
         folder = pathlib.Path(name)
-        programs = {"vt screen": [str(pathlib.Path(given.vt).resolve()), *SIZE]}
+        programs = {"vt screen": [str(vt), *SIZE]}
         programs["libvt"] = compiled(folder, "libvt", "libvt", archive, include)
         programs[SINGLE] = compiled(folder, "single", "libvt", "-DCUT=1", archive, include)
         for engine in ("libvterm", "libtsm"):

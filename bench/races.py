@@ -2,11 +2,12 @@
 """Races sessions by the built program, and measures races beside plays.
 
 usage: races.py soak PROGRAM [RACES] [SEED] [--busy N]
-       races.py measure PROGRAM [RUNS] [PROCESSES ..] [--busy N]
-       races.py runs PROGRAM [RUNS] [PROCESSES ..] [--busy N]
+       races.py measure PROGRAM [RUNS] [PROCESSES ..] [--busy N] [--unproved]
+       races.py runs PROGRAM [RUNS] [PROCESSES ..] [--busy N] [--unproved]
 
-PROGRAM is the program `vt`, as crates/vt/out/vt. With `--busy` N processes that compute run beside it. The first line
-has the date, the processors and the load.
+PROGRAM is the program `vt`, as crates/vt/out/vt; figures of one that tools/build.py made without proofs want
+`--unproved`. With `--busy` N processes that compute run beside it. The first line has the date, the processors and the
+load.
 
 `soak` races the session that sessions.py writes, and then RACES sessions (200) of 2 to 64 processes: small ones of all
 calls, half of them with processes that are killed or leave at a signal, and ones in which all processes except four
@@ -24,6 +25,7 @@ every caller has made its first call; and the longest of the whole journal.
 """
 import contextlib
 import os
+import pathlib
 import random
 import signal
 import statistics
@@ -33,6 +35,10 @@ import tempfile
 import time
 
 import sessions
+
+sys.path.insert(0, str(pathlib.Path(__file__).resolve().parent.parent / "tools"))
+
+from programs import Missing, to_measure  # noqa: E402: after the line with the folder of the tools
 
 FINE, JOURNAL_FULL = 0, 7
 MOST_ITEMS = 10_000             # of one script
@@ -214,7 +220,7 @@ def beside(busy):
 
 
 def main():
-    words, busy = sys.argv[1:], 0
+    words, busy = [word for word in sys.argv[1:] if word != "--unproved"], 0
     try:
         if "--busy" in words:
             at = words.index("--busy")
@@ -228,6 +234,10 @@ def main():
         sys.exit(__doc__)
     if not os.access(words[1], os.X_OK):
         sys.exit(f"{words[1]}: no program that runs")
+    try:
+        to_measure(words[1], words[0] == "soak" or "--unproved" in sys.argv)
+    except Missing as missing:
+        sys.exit(f"races.py: {missing}")
     signal.signal(signal.SIGTERM, lambda *_: sys.exit(143))     # so that the processes beside it end too
     with beside(busy):
         print(f"{time.strftime('%d %B %Y %H:%M UTC', time.gmtime())}, {os.cpu_count()} processors, "

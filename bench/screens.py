@@ -1,12 +1,12 @@
 #!/usr/bin/env python3
 """Times `vt screen R C` beside other terminal engines, on the ten kinds of text of inputs.py.
 
-usage: screens.py VT [--rows R] [--cols C] [--mib N] [--runs N] [--seed S] [--only KIND,..] [--count]
+usage: screens.py VT [--rows R] [--cols C] [--mib N] [--runs N] [--seed S] [--only KIND,..] [--count] [--unproved]
 
 The engines are those that engines/build.sh has built; one that isn't there is left out. So is `plain`, which is no engine
 but engines/plain.c, plain C for these inputs, with a ratio of its own. Each program reads a file and prints the rows; all run by turns on each input, so that a busy machine slows all alike, and the least processor time
 and the least wall time of a program's runs count. MB is 10^6 bytes. --count takes instructions too, on the first MiB,
-less those of an empty input (valgrind's callgrind).
+less those of an empty input (valgrind's callgrind). A VT that tools/build.py made without proofs is refused without --unproved, with status 2.
 """
 import argparse
 import os
@@ -18,6 +18,10 @@ import tempfile
 import time
 
 import inputs
+
+sys.path.insert(0, str(pathlib.Path(__file__).resolve().parent.parent / "tools"))
+
+from programs import Missing, to_measure  # noqa: E402: after the line with the folder of the tools
 
 HERE = pathlib.Path(__file__).resolve().parent
 # Debian's packages, by the name of the program that stands on each.
@@ -83,9 +87,14 @@ def main():
     words.add_argument("--seed", default="1")
     words.add_argument("--only", default=",".join(inputs.KINDS))
     words.add_argument("--count", action="store_true")
+    words.add_argument("--unproved", action="store_true")
     said = words.parse_args()
     size = ["screen", str(said.rows), str(said.cols)]
-    programs = {"vt": pathlib.Path(said.vt).resolve()}
+    try:
+        programs = {"vt": to_measure(said.vt, said.unproved)}
+    except Missing as missing:
+        print(f"screens.py: {missing}", file=sys.stderr)
+        sys.exit(missing.status)
     programs |= {name: HERE / "engines/built" / name for name in [*ENGINES, PLAIN]}
     commands = {name: [str(path), *size] for name, path in programs.items() if path.exists()}
     print(f"{said.rows} by {said.cols}, {said.mib:g} MiB, least of {said.runs} runs by turns;",

@@ -25,8 +25,9 @@ if sys.version_info < (3, 10):
 
 from conformance import compare, cutdown, engine_list, page  # noqa: E402: after the line that keeps tools/ clean
 from conformance.adapters import SECONDS  # noqa: E402
-from conformance.forms import PAGE, PROGRAM, Fault, read_corpus  # noqa: E402
+from conformance.forms import PAGE, Fault, read_corpus  # noqa: E402
 from conformance.words import in_words, part_in_words  # noqa: E402
+from programs import Missing, find  # noqa: E402
 
 MOST_SECONDS = 3600
 
@@ -66,6 +67,7 @@ def run(given):
         raise Fault(f"--seconds {given.seconds:g}: a number above 0 was wanted, at most {MOST_SECONDS}")
     cases = chosen(read_corpus(given.corpus), given.only, given.page)
     kinds = compare.PAGE_KINDS if given.page else compare.KINDS
+    program = find("vt", given.vt) if given.first else None
     engines = engine_list.engines(given)
     target = pathlib.Path(given.html or "page.html").absolute()
     if target.is_dir() or not target.parent.is_dir():
@@ -77,7 +79,7 @@ def run(given):
     lines = compare.table(cases, results, kinds)
     for engine in engines:
         lines += compare.notes(engine.name, results[engine.name])
-        lines += shortest(given.vt, engine, results[engine.name]) if given.first else []
+        lines += shortest(program, engine, results[engine.name]) if given.first else []
     lines += compare.agreed(results) if given.agreed else []
     if given.html:
         target.write_text(page.html(results, kinds), encoding="utf-8", errors="backslashreplace")
@@ -88,7 +90,7 @@ def run(given):
 def main():
     words = argparse.ArgumentParser(description=__doc__.split("\n\n")[0])
     words.add_argument("engine", nargs="*", metavar="ENGINE", help="vt, libvt, pyte, libvterm, tmux or linux")
-    words.add_argument("--vt", default=PROGRAM, metavar="PROGRAM", help="the program vt")
+    words.add_argument("--vt", metavar="PROGRAM", help="the program vt; the one that tools/programs.py finds without it")
     words.add_argument("--command", action="append", default=[], metavar="'PROGRAM ..'", help="an engine of your own")
     words.add_argument("--device", type=int, metavar="N", help="console N of this machine")
     words.add_argument("--kernel", metavar="FILE", help="a Linux kernel, run in qemu")
@@ -107,7 +109,7 @@ def main():
     except BrokenPipeError:
         os.dup2(os.open(os.devnull, os.O_WRONLY), sys.stdout.fileno())
         return 2
-    except (Fault, OSError) as fault:
+    except (Fault, Missing, OSError) as fault:
         print(f"engines: {fault}", file=sys.stderr)
         return 2
 

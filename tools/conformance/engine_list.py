@@ -4,6 +4,8 @@ import pathlib
 import shutil
 import subprocess
 
+from programs import find
+
 from . import judge
 from .adapters import Program
 from .device import Device
@@ -14,7 +16,7 @@ from .tmux import Tmux
 HERE = pathlib.Path(__file__).resolve().parent
 BUILT = HERE / "out"
 # What the driver in C of an engine stands on.
-WANTED = {"libvterm": "Debian's libvterm-dev", "libvt": "the library in out/c, which tools/build_c.sh makes"}
+WANTED = {"libvterm": "Debian's libvterm-dev", "libvt": "the library in out/c, which tools/build.py makes"}
 
 
 class Recorded:
@@ -40,15 +42,22 @@ class Vt:
         return judge.judge(self.program, cases)
 
 
+def built_folder():
+    """The folder of the compiled adapters: beside their sources, or in the user's cache if that can't be written."""
+    if os.access(BUILT if BUILT.exists() else HERE, os.W_OK):
+        return BUILT
+    return pathlib.Path(os.environ.get("XDG_CACHE_HOME") or "~/.cache").expanduser() / "vt"
+
+
 def driver(seconds, name, *options):
     """The adapter in C of an engine, compiled where it is missing or older than its sources."""
-    source, built = HERE / f"{name}.c", BUILT / name
+    source, built = HERE / f"{name}.c", built_folder() / name
     newest = max(file.stat().st_mtime for file in (source, HERE / "adapter.h", *(HERE / it for it in options if isinstance(it, pathlib.Path))))
     if not built.exists() or built.stat().st_mtime < newest:
         compiler = shutil.which("cc") or shutil.which("gcc")
         if not compiler:
             raise Fault(f"{name}: a C compiler was wanted for tools/conformance/{name}.c")
-        BUILT.mkdir(exist_ok=True)
+        built.parent.mkdir(parents=True, exist_ok=True)
         part = f"{built}.{os.getpid()}"
         words = [compiler, "-O2", "-o", part, source, *options]
         ran = subprocess.run(words, capture_output=True, text=True, check=False)
@@ -80,7 +89,7 @@ def engines(given):
     """The engines that the words name: vt where they name none."""
     seconds = given.seconds
     makers = {
-        "vt": lambda: Vt(given.vt), "libvt": lambda: libvt(seconds), "pyte": lambda: pyte(seconds),
+        "vt": lambda: Vt(find("vt", given.vt)), "libvt": lambda: libvt(seconds), "pyte": lambda: pyte(seconds),
         "libvterm": lambda: driver(seconds, "libvterm", "-lvterm"), "tmux": lambda: Tmux(seconds), "linux": Recorded,
     }  # fmt: skip
     names = list(dict.fromkeys(given.engine))

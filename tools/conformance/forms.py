@@ -11,7 +11,6 @@ TOP = pathlib.Path(__file__).resolve().parent.parent.parent
 CORPUS = TOP / "examples" / "conformance"
 # The kernel whose console was recorded.
 RECORDED_ON = CORPUS / "linux.txt"
-PROGRAM = TOP / "crates" / "vt" / "out" / "vt"
 
 # The five parts of what stands after a case, in the order in which they are compared.
 PARTS = ("text", "cursor", "attributes", "reports", "bells")
