@@ -79,10 +79,7 @@ LEFT = {
     "docs/guide/tour.md": {"console 1  ====": DRAWING},
     "docs/guide/write-a-terminal.md": {"sequence          pyte": "measured figures of other engines"},
     "docs/library/c.md": {"bench/c_library.py": "a measurement of many minutes"},
-    "examples/conformance/README.md": {
-        "tools/make_conformance.py --more": "it writes 100,000 cases, for many minutes",
-        "tools/make_conformance.py --record": "it runs a kernel that isn't here, for some minutes",
-    },
+    "examples/conformance/README.md": {"tools/make_conformance.py --more": "it writes 100,000 cases, for many minutes"},
     "examples/recordings/README.md": {"../../tools/record.py": "it records the programs of Debian 12, with keys and times"},
     "examples/tests/README.md": {"../../tools/record.py": "it records the programs of Debian 12, with keys and times"},
     "models/README.md": {"tools/check_models.py": "`.ci/run` runs it; `--long` takes hours"},
