@@ -2,8 +2,8 @@
 
 A line in has `case`, a number, `rows`, `columns`, and `pieces`, the text as it is written. A line out has the same
 `case` and those of `text`, `cursor`, `attributes` or `pens`, `reports` and `bells` that the engine knows; or `fault`, a
-text, if the engine failed. A case that isn't answered within five seconds, or not by such a line, is a fault of that
-case: the program is started again for the next.
+text, if the engine failed. A case that isn't answered within the limit of seconds, or not by such a line, is a fault of
+that case: the program is started again for the next.
 """
 import json
 import os
@@ -59,12 +59,12 @@ def write_all(terminal, data):
 class Program:
     """An engine that is a program with the protocol of lines."""
 
-    def __init__(self, name, words):
-        self.name, self.words = name, words
+    def __init__(self, name, words, seconds=SECONDS):
+        self.name, self.words, self.seconds = name, words, seconds
         self.process, self.left, self.asked = None, b"", 0
 
     @classmethod
-    def of_command(cls, command):
+    def of_command(cls, command, seconds=SECONDS):
         """The engine of a command line."""
         try:
             words = shlex.split(command)
@@ -72,7 +72,7 @@ class Program:
             raise Fault(f"--command {command!r}: the words of a command were wanted: {fault}") from None
         if not words:
             raise Fault("--command: a program was wanted, and there is no word")
-        return cls(os.path.basename(words[0]) if len(words) == 1 else command, words)
+        return cls(os.path.basename(words[0]) if len(words) == 1 else command, words, seconds)
 
     def start(self):
         """Starts the program, in a group of its own."""
@@ -110,16 +110,17 @@ class Program:
         self.stop()
         return CaseFault(f"died: it ended with {status}")
 
-    def exchange(self, line):
-        """Writes a line and reads one."""
-        until = time.monotonic() + SECONDS
+    def exchange(self, line, seconds=None):
+        """Writes a line and reads one, within the program's limit or another one."""
+        seconds = seconds or self.seconds
+        until = time.monotonic() + seconds
         into, out = self.process.stdin.fileno(), self.process.stdout.fileno()
         while b"\n" not in self.left:
             rest = until - time.monotonic()
             readable, writable, _ = select.select([out], [into] if line else [], [], max(rest, 0))
             if not readable and not writable:
                 self.stop()
-                raise CaseFault(f"hangs: no answer within {SECONDS} s")
+                raise CaseFault(f"hangs: no answer within {seconds:g} s")
             try:
                 if readable:
                     read = os.read(out, 65536)
@@ -150,19 +151,23 @@ class Program:
                 self.stop()
             raise
 
+    def asked_in_turn(self, cases):
+        """The answer or the `CaseFault` of each case, in their order; the program goes on."""
+        hangs = 0
+        for case in cases:
+            if hangs == HANGS_IN_A_ROW:
+                yield CaseFault(f"not run: it hung in {HANGS_IN_A_ROW} cases one after another")
+                continue
+            try:
+                yield self.ask(case)
+                hangs = 0
+            except CaseFault as fault:
+                hangs = hangs + 1 if str(fault).startswith("hangs") else 0
+                yield fault
+
     def answers(self, cases):
         """The answer or the `CaseFault` of each case, in their order."""
-        hangs = 0
         try:
-            for case in cases:
-                if hangs == HANGS_IN_A_ROW:
-                    yield CaseFault(f"not run: it hung in {HANGS_IN_A_ROW} cases one after another")
-                    continue
-                try:
-                    yield self.ask(case)
-                    hangs = 0
-                except CaseFault as fault:
-                    hangs = hangs + 1 if str(fault).startswith("hangs") else 0
-                    yield fault
+            yield from self.asked_in_turn(cases)
         finally:
             self.stop()

@@ -2,11 +2,12 @@
 
 `stored` makes the families of the stored corpus, by the names of their files; `random_case` makes any number more.
 """
+import itertools
 import random
 
 from . import characters, pens_cases
-from .forms import TOP, Case
-from .sequences import NUMERIC, PLAIN
+from .forms import OWN_RULES, TOP, Case, paragraph
+from .sequences import MACHINE_WIDE, NUMERIC, PLAIN
 from .states import COLUMNS, OWN, ROWS, STATES, before
 
 COUNT = 3000
@@ -14,12 +15,6 @@ RECORDINGS = ("listing", "pager", "editor", "monitor", "dialog", "progress")
 OWN_CLASSES = {"many": "over 16 parameters"}
 # The sequences after which blanks stand, or in which blanks come in by what is written after them.
 BLANKING = {"ICH", "ED", "EL", "IL", "DL", "DCH", "ECH", "DECSTBM", "DECALN", "default-pair"}
-
-
-def paragraph(of_page, *own):
-    """The paragraph of the page, or what of this project's own decides with it."""
-    rules = ", ".join(dict.fromkeys(rule for rule in own if rule))
-    return f"this project's own ({rules}), with {of_page}" if rules else of_page
 
 
 def tried(sequence, name, state, *own):
@@ -73,11 +68,12 @@ def cut_cases():
             yield Case(f"{row.name}/{kind}/home", paragraph(sequence.of_page, sequence.own), ROWS, COLUMNS, text)
 
 
-def circuit(count):
-    """A closed walk over numbers below the count in which each ordered pair, also of one with itself, stands once."""
-    rng = random.Random(0)
-    left = [rng.sample(range(count), count) for _ in range(count)]
-    walk, stack = [], [0]
+def circuit(pairs):
+    """A closed walk in which each of these ordered pairs stands once."""
+    left = {}
+    for first, second in random.Random(0).sample(pairs, len(pairs)):
+        left.setdefault(first, []).append(second)
+    walk, stack = [], [pairs[0][0]]
     while stack:
         if left[stack[-1]]:
             stack.append(left[stack[-1]].pop())
@@ -86,18 +82,29 @@ def circuit(count):
     return walk[::-1]
 
 
+def parts_of_walk(pairs, count):
+    """The walk over these pairs in so many parts; each begins with the sequence that ends the one before."""
+    walk = circuit(pairs)
+    ends = [len(pairs) * n // count for n in range(count + 1)]
+    return [walk[start : end + 1] for start, end in itertools.pairwise(ends)]
+
+
 def pair_cases(count):
-    """Each ordered pair of sequences once, in so many cases: a letter is printed after each sequence."""
-    sequences = all_sequences()
-    walk = circuit(len(sequences))
-    edges = len(walk) - 1
-    for n in range(count):
-        part = [sequences[it] for it in walk[edges * n // count : edges * (n + 1) // count + 1]]
+    """Each ordered pair of sequences once, in so many cases: a letter is printed after each sequence.
+
+    The pairs with a sequence that changes the machine come last, so that a Linux console can be asked about the others.
+    """
+    pairs = list(itertools.product(all_sequences(), repeat=2))
+    changing = [pair for pair in pairs if any(MACHINE_WIDE.search(sequence.data) for sequence in pair)]
+    others = [pair for pair in pairs if not any(MACHINE_WIDE.search(sequence.data) for sequence in pair)]
+    last = count * len(changing) // len(pairs)
+    parts = parts_of_walk(others, count - last) + parts_of_walk(changing, last)
+    for number, part in enumerate(parts, 1):
         data = before("home", 0) + b"\x1b[3;6H"
         data += b"".join(sequence.data + bytes([97 + place % 26]) for place, sequence in enumerate(part))
         names = ", ".join(dict.fromkeys(sequence.name for sequence in part))
-        paragraph_of_all = f"this project's own (the pending wrap), with console_codes(4): {names}"
-        yield Case(f"pairs/{n + 1}", paragraph_of_all, ROWS, COLUMNS, data)
+        rules = paragraph(f"console_codes(4): {names}", "the pending wrap")
+        yield Case(f"pairs/{number}", rules, ROWS, COLUMNS, data)
 
 
 def recording_cases():
@@ -136,4 +143,4 @@ def random_case(seed, number):
     data = before(rng.choice(STATES), rng.randrange(3))
     data += b"".join(random_sequence(rng) + rng.choice([b"", b"x", b"yz"]) for _ in range(rng.randint(1, 8)))
     cuts = tuple(sorted(rng.sample(range(1, len(data)), rng.choice([0, 0, 1, 3]))))
-    return Case(f"more-{seed}/{number}", "this project's own, with console_codes(4)", ROWS, COLUMNS, data, cuts)
+    return Case(f"more-{seed}/{number}", f"{OWN_RULES}, with console_codes(4)", ROWS, COLUMNS, data, cuts)

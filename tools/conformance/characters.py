@@ -1,10 +1,12 @@
 """Cases of text: characters of one, two and no columns, malformed UTF-8, and bytes through the four tables."""
-from .forms import Case
+from .forms import Case, paragraph
 from .sequences import CONTROL, SETS
 
 ROWS, COLUMNS = 3, 20
 WIDTHS = "the columns of characters"
 MALFORMED = "malformed UTF-8"
+# The page names the VT100 graphics, and none of their characters.
+OWN_TABLES = {"0": "the tables' characters"}
 
 # Each text: its name, its bytes, and the own rule that decides.
 UTF_8 = [
@@ -59,22 +61,17 @@ def table_cases():
     for name in "B0UK":
         for row in BYTES:
             data = b"\x1b%@\x1b(" + name.encode() + row.replace(b"\x7f", b"").replace(b"\x9b", b"")
-            paragraph = f"console_codes(4), {SETS}, ESC ( {name}"
-            yield Case(f"table-{name}/{row[0]:02x}", paragraph, ROWS, COLUMNS, data)
-
-
-def with_own(own, of_page):
-    """The paragraph of the page, or with it the rule of this project's own that decides."""
-    return f"this project's own ({own}), with {of_page}" if own else of_page
+            rules = paragraph(f"console_codes(4), {SETS}, ESC ( {name}", OWN_TABLES.get(name))
+            yield Case(f"table-{name}/{row[0]:02x}", rules, ROWS, COLUMNS, data)
 
 
 def cases():
     """All of them."""
     for name, data, own in UTF_8:
-        yield Case(f"text/{name}", with_own(own, "console_codes(4), DESCRIPTION, UTF-8 mode"), ROWS, COLUMNS, data)
+        yield Case(f"text/{name}", paragraph("console_codes(4), DESCRIPTION, UTF-8 mode", own), ROWS, COLUMNS, data)
     for name, data in UNFINISHED:
         yield Case(f"unfinished/{name}", f"console_codes(4), {CONTROL}, ESC", ROWS, COLUMNS, data)
     for name, data, own in LIMITS:
-        paragraph = with_own(own, "console_codes(4), ECMA-48 CSI sequences, CSI")
-        yield Case(f"limits/{name}", paragraph, ROWS, COLUMNS, data)
+        rules = paragraph("console_codes(4), ECMA-48 CSI sequences, CSI", own)
+        yield Case(f"limits/{name}", rules, ROWS, COLUMNS, data)
     yield from table_cases()

@@ -53,7 +53,7 @@ def lessened(program, engine, result, atoms_in, keeps):
     size = max(len(atoms_in(result.case.data)) // 2, 1)
     for _ in range(ROUNDS):
         texts = [data for data in without(atoms_in(result.case.data), size) if keeps(data, result.case.data)]
-        candidates = [replace(result.case, data=data, cuts=()) for data in texts]
+        candidates = [result.case.with_data(data) for data in texts]
         found = still_differing(program, engine, candidates, result.parts)
         if found:
             result = found
@@ -66,7 +66,7 @@ def lessened(program, engine, result, atoms_in, keeps):
 
 def cut_down(program, engine, result):
     """The result of the case's shortest text."""
-    whole = still_differing(program, engine, [replace(result.case, cuts=())], result.parts)
+    whole = still_differing(program, engine, [result.case.with_data(result.case.data)], result.parts)
     if whole is None:
         return result  # it is its cuts that make it differ
     result = lessened(program, engine, whole, atoms_of, lambda _data, _old: True)

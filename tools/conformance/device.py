@@ -2,23 +2,19 @@
 import errno
 import fcntl
 import os
-import re
 import select
 import struct
 import termios
 import time
 import tty
-import unicodedata
 
 from .adapters import CaseFault, write_all
 from .forms import Fault
-from .judge import HALF, runs_of, text_of
+from .sequences import MACHINE_WIDE
+from .vcs import answer_of
 
 VT_DISALLOCATE = 0x5608
 WAIT, TRIES = 0.05, 40
-
-# Sequences that change more of the machine than their console: the blanking of all of them, and which is in front.
-MACHINE_WIDE = re.compile(rb"\x1b\[(9|12|13|14|15)(;[0-9]*)*\]")
 
 
 class Device:
@@ -64,7 +60,7 @@ class Device:
             codes = self.codes()
         finally:
             os.close(console)
-        return self.told(case, shown, codes, reports)
+        return answer_of(case, shown, codes, reports)
 
     def free(self):
         """Frees the console, which takes a moment to be free after it was closed."""
@@ -89,25 +85,6 @@ class Device:
             if fault.errno == errno.ENODATA:
                 return None
             raise
-
-    def told(self, case, shown, codes, reports):
-        """The answer, by what the three files gave."""
-        rows, columns, column, row = shown[:4]
-        if (rows, columns) != (case.rows, case.columns):
-            wanted = f"{case.rows} rows and {case.columns} columns were wanted"
-            raise CaseFault(f"refuses: {wanted}, and there are {rows} and {columns}")
-        answer = {
-            "cursor": [row, column], "attributes": runs_of(shown[5::2], columns), "reports": reports.decode("latin-1"),
-        }  # fmt: skip
-        if codes is None:
-            return answer
-        # Its second cell of a wide character is a blank.
-        cells = [int.from_bytes(codes[at : at + 4], "little") for at in range(0, len(codes), 4)]
-        for place in range(1, len(cells)):
-            before = chr(cells[place - 1] % HALF)
-            if place % columns and cells[place] == 32 and unicodedata.east_asian_width(before) in "WF":
-                cells[place] = HALF
-        return {**answer, "text": text_of(b"".join(cell.to_bytes(4, "little") for cell in cells), rows, columns)}
 
     def answers(self, cases):
         """The answer or the `CaseFault` of each case, in their order."""

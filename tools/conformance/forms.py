@@ -9,9 +9,23 @@ from dataclasses import dataclass, replace
 
 TOP = pathlib.Path(__file__).resolve().parent.parent.parent
 CORPUS = TOP / "examples" / "conformance"
+# The kernel whose console was recorded.
+RECORDED_ON = CORPUS / "linux.txt"
 
 # The five parts of what stands after a case, in the order in which they are compared.
 PARTS = ("text", "cursor", "attributes", "reports", "bells")
+# Those that are recorded of a Linux console, which has no file that counts bells.
+RECORDED = PARTS[:4]
+
+# Where the rule of a case is: in a manual page or a standard, or here alone. The paragraph of the latter begins so.
+PAGE, OWN = "page", "own"
+OWN_RULES = "this project's own"
+
+
+def paragraph(of_page, *own):
+    """The paragraph of the page, or the rules of this project's own that decide with it."""
+    rules = ", ".join(dict.fromkeys(rule for rule in own if rule))
+    return f"{OWN_RULES} ({rules}), with {of_page}" if rules else of_page
 
 
 class Fault(Exception):
@@ -20,7 +34,10 @@ class Fault(Exception):
 
 @dataclass(frozen=True)
 class Case:
-    """A text for a screen of one size, the places where it is cut into writes, and what stands after it."""
+    """A text for a screen of one size, the places where it is cut into writes, and what stands after it.
+
+    `linux` has the parts that a Linux console shows otherwise, or is None if none was asked.
+    """
 
     name: str
     paragraph: str
@@ -29,6 +46,12 @@ class Case:
     data: bytes
     cuts: tuple = ()
     after: dict | None = None
+    linux: dict | None = None
+
+    @property
+    def source(self):
+        """Where the rule that decides is."""
+        return OWN if self.paragraph.startswith(OWN_RULES) else PAGE
 
     @property
     def group(self):
@@ -44,13 +67,30 @@ class Case:
         """The same case, written byte by byte."""
         return replace(self, cuts=tuple(range(1, len(self.data))))
 
+    def with_data(self, data):
+        """A case of another text in one write, of which nothing was recorded."""
+        return replace(self, data=data, cuts=(), linux=None)
+
+    def recorded(self):
+        """The parts that the Linux console showed, or None if it wasn't asked."""
+        if self.linux is None:
+            return None
+        return {part: self.linux.get(part, self.after[part]) for part in RECORDED}
+
+    def with_recorded(self, shown):
+        """The case with what a Linux console showed: the parts in which that differs are kept."""
+        return replace(self, linux={part: shown[part] for part in RECORDED if shown[part] != self.after[part]})
+
     def line(self):
         """The case as a line of a corpus, without its line feed."""
-        made = {"name": self.name, "paragraph": self.paragraph, "rows": self.rows, "columns": self.columns}
+        made = {"name": self.name, "source": self.source, "paragraph": self.paragraph}
+        made |= {"rows": self.rows, "columns": self.columns}
         made["bytes"] = self.data.decode("latin-1")
         if self.cuts:
             made["cuts"] = list(self.cuts)
         made["after"] = self.after
+        if self.linux is not None:
+            made["linux"] = self.linux
         return json.dumps(made, separators=(", ", ": "))
 
 
@@ -99,6 +139,9 @@ def case_of(made):
     for key in ("name", "paragraph"):
         if not isinstance(made.get(key), str) or not made[key] or not made[key].isprintable():
             raise Fault(f'"{key}" has to be a text of printed characters')
+    source = OWN if made["paragraph"].startswith(OWN_RULES) else PAGE
+    if made.get("source") != source:
+        raise Fault(f'"source" has to be "{source}", by the first words of the paragraph')
     for key in ("rows", "columns"):
         if not is_number(made.get(key), 1, 255):
             raise Fault(f'"{key}" has to be a number from 1 to 255')
@@ -111,14 +154,18 @@ def case_of(made):
     after = made.get("after")
     if not isinstance(after, dict) or set(after) != set(PARTS):
         raise Fault(f'"after" has to be an object with {", ".join(PARTS)}')
-    for part in PARTS:
-        why = fault_of_part(part, after[part], made["rows"], made["columns"])
+    linux = made.get("linux", {})
+    if not isinstance(linux, dict) or set(linux) - set(RECORDED):
+        raise Fault(f'"linux" has to be an object with some of {", ".join(RECORDED)}')
+    for part, value in [*after.items(), *linux.items()]:
+        why = fault_of_part(part, value, made["rows"], made["columns"])
         if why:
             raise Fault(why)
-    unknown = set(made) - {"name", "paragraph", "rows", "columns", "bytes", "cuts", "after"}
+    unknown = set(made) - {"name", "source", "paragraph", "rows", "columns", "bytes", "cuts", "after", "linux"}
     if unknown:
         raise Fault(f'"{min(unknown)}" is no key of a case')
-    return Case(made["name"], made["paragraph"], made["rows"], made["columns"], data, tuple(cuts), after)
+    size = made["rows"], made["columns"]
+    return Case(made["name"], made["paragraph"], *size, data, tuple(cuts), after, made.get("linux"))
 
 
 def read_file(path):

@@ -1,5 +1,5 @@
 """Cases of SGR: each number on a fresh pen, those that change a pen where everything is on, and the blanks of a pen."""
-from .forms import Case
+from .forms import Case, paragraph
 from .sequences import SGR
 
 ROWS, COLUMNS = 2, 10
@@ -22,6 +22,7 @@ BLANKS = ["1", "2", "3", "4", "5", "7", "31", "42", "1;31;42", "7;31;42", "5;42"
 ORDER = "the order of an attribute byte"
 FOLDING = "the folding of colours"
 BROKEN_RULE = "38 and 48 without a whole form"
+OF_ONE = {"4": "the colour for underline at the start", "21": "21 as 4"}
 BLANK = "blanks have the pen's two colours alone"
 
 WORDS = [*ATTRIBUTES, *FONT, *COLOURS, *BRIGHT, *SEVERAL, *(f"{w};5;{i}" for w in (38, 48) for i in INDICES)]
@@ -29,18 +30,16 @@ WORDS = [*ATTRIBUTES, *FONT, *COLOURS, *BRIGHT, *SEVERAL, *(f"{w};5;{i}" for w i
 
 def case(group, words, state, *own, probe=b"x"):
     """A pen after these words, and a character drawn by it."""
-    rules = ", ".join(own)
-    of_page = f"console_codes(4), {SGR}, {words.split(';')[0] or '0'}"
-    paragraph = f"this project's own ({rules}), with {of_page}" if rules else of_page
+    rules = paragraph(f"console_codes(4), {SGR}, {words.split(';')[0] or '0'}", *own)
     before = EVERYTHING if state == "everything-on" else b""
     data = before + b"ab\x1b[" + words.encode() + b"m" + probe
-    return Case(f"{group}/{words or 'none'}/{state}", paragraph, ROWS, COLUMNS, data)
+    return Case(f"{group}/{words or 'none'}/{state}", rules, ROWS, COLUMNS, data)
 
 
 def cases():
     """All of them."""
     for words in ATTRIBUTES:
-        yield case("SGR-attributes", words, "fresh", *(["21 as 4"] if words == "21" else []))
+        yield case("SGR-attributes", words, "fresh", OF_ONE.get(words))
         yield case("SGR-attributes", words, "everything-on", ORDER)
     for words in FONT:
         yield case("SGR-font", words, "fresh")

@@ -2,6 +2,7 @@
 
 `own` names the rule of docs/SCREEN.md that decides where the page is silent.
 """
+import re
 from dataclasses import dataclass
 
 CONTROL = "Control characters"
@@ -14,6 +15,9 @@ PRIVATE = "DEC Private Mode (DECSET/DECRST) sequences"
 LINUX = "Linux Console Private CSI Sequences"
 SETS = "Character sets"
 OTHERS = "Comparisons with other terminals"
+
+# Sequences that change more of the machine than their console: the blanking of all of them, and which is in front.
+MACHINE_WIDE = re.compile(rb"\x1b\[(9|12|13|14|15)(;[0-9]*)*\]")
 
 # Which of a region's rows the cursor stands in before the sequence.
 FIRST, MIDDLE, LAST = 0, 1, 2

@@ -43,7 +43,8 @@ class Tmux:
 
     name = "tmux"
 
-    def __init__(self):
+    def __init__(self, seconds=SECONDS):
+        self.seconds = seconds
         if not shutil.which("tmux"):
             raise Fault("tmux: the program tmux was wanted (Debian's package tmux)")
         self.process, self.left, self.size, self.folder = None, b"", None, None
@@ -67,7 +68,7 @@ class Tmux:
         try:
             self.process.stdin.write(b"kill-server\n")
             self.process.stdin.close()
-            self.process.wait(SECONDS)
+            self.process.wait(self.seconds)
         except (OSError, subprocess.TimeoutExpired):
             self.process.kill()
             self.process.wait()
@@ -82,14 +83,14 @@ class Tmux:
             read = os.read(self.process.stdout.fileno(), 65536) if readable else b""
             if not read:
                 self.stop()
-                raise CaseFault("died: its client ended" if readable else f"hangs: no answer within {SECONDS} s")
+                raise CaseFault("died: its client ended" if readable else f"hangs: no answer within {self.seconds:g} s")
             self.left += read
         found, self.left = self.left.split(b"\n", 1)
         return found
 
     def command(self, words):
         """The lines that a command prints."""
-        until, printed = time.monotonic() + SECONDS, None
+        until, printed = time.monotonic() + self.seconds, None
         try:
             self.process.stdin.write(words.encode() + b"\n")
         except OSError:
@@ -108,7 +109,7 @@ class Tmux:
 
     def read_by_pane(self, count):
         """Waits until the server has read so many bytes from the pane."""
-        until = time.monotonic() + SECONDS
+        until = time.monotonic() + self.seconds
         while count > 0:
             line = self.line(until)
             if line.startswith(b"%output "):
