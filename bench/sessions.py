@@ -7,7 +7,7 @@ usage: sessions.py [ITEMS] [SEED]
 consoles of 25 by 80, and as many scan bytes: writes, reads, requests, handshakes, waits, signals,
 settings and their readers. Owners let the display go at signal 10. The same numbers give the same text.
 
-    bench/sessions.py > session.toml && time crates/vt/out/vt play < session.toml > journal.txt
+    bench/sessions.py > session.toml && time vt play < session.toml > journal.txt
 """
 import random
 import sys

@@ -1,18 +1,21 @@
 #!/bin/sh
 # Builds the C library from a clone: the archive, the shared object, the header, the pkg-config file and the manual page.
 #
-# usage: tools/build_c.sh [--built | --gate] [OUT]
+# usage: tools/build_c.sh [--built | --gate | --unproved OBJECT] [OUT]
 #
 # OUT (out/c in the clone, if there is none) gets the folders of an installed library:
 #
 #     OUT/include/vt.h  OUT/lib/libvt.a  OUT/lib/libvt.so.1  OUT/lib/libvt.so  OUT/lib/pkgconfig/vt.pc  OUT/share/man/man3/vt.3
 #
+# and the file OUT/BUILD, which has in a line whether the library is proved, its commit and the toolchain.
+#
 # It wants the Rattle toolchain (rt), a C compiler (CC, or cc), ld, ar and objcopy. `rt lib` proves the two crates of the
 # library and those below them, if they aren't proved yet. With --gate the crates below are taken as `rt ci` just left
 # them in this clone, and only the two crates are proved; `rt lib` doesn't take these, since they are without the proofs.
-# With --built the archives in crates/screen_c/out and crates/keys_c/out are taken as they stand, and rt isn't called. A
-# program that is linked with the library wants only a C compiler. Status 1: something is missing, which the last line
-# names, or a step failed.
+# With --built the archives in crates/screen_c/out and crates/keys_c/out are taken as they stand, and rt isn't called;
+# with --unproved the library is made of an object file, which tools/build.py compiles without proofs. A program that is
+# linked with the library wants only a C compiler. Status 1: something is missing, which the last line names, or a step
+# failed.
 set -eu
 
 stop() {
@@ -20,11 +23,12 @@ stop() {
     exit 1
 }
 
-usage='usage: build_c.sh [--built | --gate] [OUT]'
-built='' gate=''
+usage='usage: build_c.sh [--built | --gate | --unproved OBJECT] [OUT]'
+built='' gate='' object=''
 case "${1-}" in
     --built) built=1; shift;;
     --gate) gate=1; shift;;
+    --unproved) [ -f "${2-}" ] || stop "$usage"; object=$2; shift 2;;
 esac
 case "${1-}" in -*) stop "$usage";; esac
 [ $# -le 1 ] || stop "$usage"
@@ -35,7 +39,7 @@ cc=${CC-cc}
 for tool in "$cc" ld ar objcopy sed; do
     command -v "$tool" > /dev/null || stop "$tool isn't there; Debian's packages gcc and binutils have it"
 done
-[ -n "$built" ] || command -v rt > /dev/null || stop "rt isn't there: the Rattle toolchain's folder bin belongs into PATH"
+[ -n "$built$object" ] || command -v rt > /dev/null || stop "rt isn't there: the Rattle toolchain's folder bin belongs into PATH"
 case $("$cc" -dumpmachine) in
     x86_64-*linux*) ;;
     *) stop "$cc compiles for $("$cc" -dumpmachine); the library is for Linux on x86-64" ;;
@@ -80,8 +84,9 @@ build_over_gate() {
         --toolchain "$kit/toolchain" --backend llvm --jobs "$(nproc)" -o "out/lib$crate.a")
 }
 
-objects=
-for crate in screen_c keys_c; do
+objects=$object crates='screen_c keys_c'
+[ -z "$object" ] || crates=
+for crate in $crates; do
     archive=$top/crates/$crate/out/lib$crate.a
     if [ -n "$gate" ] && is_of_gate "$crate"; then
         build_over_gate "$crate" > "$work/log" 2>&1 ||
@@ -103,7 +108,7 @@ ld -r -o "$work/vt.o" $objects "$work/heap.o" || stop "ld joined no object"
 objcopy --wildcard --keep-global-symbol='vt_screen_*' --keep-global-symbol='vt_keys_*' "$work/vt.o" ||
     stop "objcopy failed"
 mkdir -p "$out/include" "$out/lib/pkgconfig" "$out/share/man/man3" || stop "$out can't be made"
-rm -f "$out"/lib/libvt.*
+rm -f "$out"/lib/libvt.* "$out/BUILD"
 ar rcsD "$out/lib/libvt.a" "$work/vt.o"
 "$cc" -shared -o "$out/lib/libvt.so.1" "$work/vt.o" -Wl,-soname,libvt.so.1 -Wl,--version-script="$top/c/vt.map" \
     -Wl,-z,defs -Wl,-z,text -Wl,-z,noexecstack || stop "libvt.so.1 wasn't linked"
@@ -112,4 +117,9 @@ cp "$top/include/vt.h" "$out/include/vt.h"
 cp "$top/man/vt.3" "$out/share/man/man3/vt.3"
 # pcfiledir is the folder of vt.pc, so that the folders can be used where they are.
 sed -e 's|@PREFIX@|${pcfiledir}/../..|' -e "s|@VERSION@|$version|" "$top/c/vt.pc.in" > "$out/lib/pkgconfig/vt.pc"
-echo "$out: libvt.a, libvt.so.1, vt.h, vt.pc and vt(3) of version $version"
+proved=proved
+[ -z "$object" ] || proved='not proved'
+commit=$(git -C "$top" describe --always '--dirty=, changed' --abbrev=40 '--exclude=*' 2> /dev/null) || commit=unknown
+toolchain=$(rt version 2> /dev/null) || toolchain='a toolchain that is unknown'
+echo "libvt: $proved, commit $commit, $toolchain" > "$out/BUILD"
+echo "$out: libvt.a, libvt.so.1, vt.h, vt.pc and vt(3) of version $version, $proved"

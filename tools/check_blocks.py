@@ -28,10 +28,12 @@ import sys
 
 sys.dont_write_bytecode = True
 
-from check_pages import PROGRAM, SECONDS, TOP  # noqa: E402: after the line that keeps tools/ clean
+from check_pages import SECONDS, TOP  # noqa: E402: after the line that keeps tools/ clean
 from check_snippets import stands_in  # noqa: E402
+from programs import CRATES, find_for_check  # noqa: E402
 
 DRAWING, FORM, USAGE = "a drawing", "the form of lines, with names for their parts", "a usage line with names for its parts"
+BUILD = "a build of all programs; check_build.py builds one of them"
 # The tools that check the commands and files of a page in a folder of its own.
 ELSEWHERE = {
     "docs/guide/test-a-terminal-program.md": "check_expect.py",
@@ -53,8 +55,8 @@ FILE = re.compile(r"`((?:crates|examples|include)/[\w/.-]+)`")
 NAMED = re.compile(r"`[\w/.-]+\.\w+`")
 # The first words of blocks that nothing runs, with the reason.
 LEFT = {
-    "README.md": {"keyboard    a": DRAWING},
-    "docs/REDRAW.md": {"example_redraw 25 80": USAGE, "modes that the rows need": "the order of the parts of a text"},
+    "README.md": {"keyboard    a": DRAWING, "tools/build.py &&": BUILD},
+    "docs/REDRAW.md": {"redraw 25 80": USAGE, "modes that the rows need": "the order of the parts of a text"},
     "docs/REVIEW.md": {"A E display N": FORM},
     "docs/WATCH.md": {"watch < FILE": USAGE, "now: front F": FORM},
     "docs/contributing/architecture.md": {
@@ -68,8 +70,12 @@ LEFT = {
     "docs/guide/embed-a-crate.md": {
         "cd my-console/crates/first && rt check": "a proof of some minutes; check_snippets.py compiles and runs the program",
     },
-    "docs/guide/install.md": {"tools/install.sh": "check_c.py installs into a folder of its own"},
-    "docs/guide/test-a-terminal-program.md": {"PATH=": "check_expect.py sets the same path"},
+    "docs/guide/install.md": {
+        "tools/build.py": BUILD, "PATH=": "check_pages.py sets such a path",
+        "tools/copy_crates.py": "a proof of all programs", "for it in": "it copies the programs of that proof",
+        "tools/install.sh": "check_install.py installs into a folder of its own",
+    },
+    "docs/guide/test-a-terminal-program.md": {"PATH=": "check_expect.py sets such a path"},
     "docs/guide/tour.md": {"console 1  ====": DRAWING},
     "docs/guide/write-a-terminal.md": {"sequence          pyte": "measured figures of other engines"},
     "docs/library/c.md": {"bench/c_library.py": "a measurement of many minutes"},
@@ -119,11 +125,10 @@ def named_file(block, before):
 def program_faults(block, after):
     """Runs the built program as the block runs it; the page has the lines that it prints after the block."""
     folder, command, words = re.fullmatch(r"\(cd (crates/\w+) && (.*?)rt (?:run|try) -- (.*)\)", block[0]).groups()
-    name = folder.split("/")[1]
-    program = TOP / folder / "out" / name
-    if not program.exists():
-        return [f"{folder}/out/{name} is missing"]
-    status, printed = run(["bash", "-c", f"cd {folder} && {command}out/{name} {words}"])
+    name = next((name for name, crate in CRATES.items() if folder == f"crates/{crate}"), None)
+    if not name:
+        return [f"tools/programs.py has no program of {folder}"]
+    status, printed = run(["bash", "-c", f"cd {folder} && {command}{find_for_check(name)} {words}"])
     rows = re.findall(r"`(\|.*?\|)`", after)
     good = status == 0 and rows in ([], printed.split("\n")[:-1])
     return [] if good else [f"it ends with {status} and prints\n{printed}"]
@@ -145,10 +150,10 @@ def checked_by(page, block, before, after):
         good = stands_in("\n".join(block), TOP / file)
         return f"this tool: {file}", [] if good else [f"these lines don't stand in {file}"]
     if block[0].startswith("rows = "):
-        status, printed = run([PROGRAM, "play"], "\n".join(block).encode())
+        status, printed = run([find_for_check("vt"), "play"], "\n".join(block).encode())
         return "this tool: vt play", [] if status == 0 else [f"`vt play` refuses it: {printed}"]
     if block[0].startswith("%journal"):
-        status, printed = run([PROGRAM, "check"], ("rows = 1\n" + "\n".join(block) + "\n").encode())
+        status, printed = run([find_for_check("vt"), "check"], ("rows = 1\n" + "\n".join(block) + "\n").encode())
         return "this tool: vt check", [] if status in (0, 8) else [f"`vt check` refuses it: {printed}"]
     if page in ELSEWHERE and before.endswith(":") and NAMED.search(before):
         return ELSEWHERE[page], []
@@ -159,9 +164,7 @@ def checked_by(page, block, before, after):
 
 
 def main():
-    if not PROGRAM.exists():
-        print(f"{PROGRAM.relative_to(TOP)} is missing: `rt run` in crates/vt builds it (README.md, \"Install\")")
-        return 2
+    find_for_check("vt")
     faults, used = [], set()
     for path in pages():
         page = str(path.relative_to(TOP))

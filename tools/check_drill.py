@@ -5,14 +5,14 @@ What `play` prints of it has four of the five numbers: entries, what they count 
 console in front. `vt check` has to find the journal legal, and `vt explain` and `vt review` find as many switches of
 the display in it as the drill counts. Ends with status 1 where something differs, and 2 if there is no program.
 """
-import os
-import pathlib
 import re
 import subprocess
 import sys
 
-ROOT = pathlib.Path(__file__).resolve().parent.parent
-PROGRAM = ROOT / "crates/vt/out/vt"
+sys.dont_write_bytecode = True
+
+from programs import find_for_check  # noqa: E402: after the line that keeps tools/ clean
+
 DRILLS = [(1, 0), (1, 1), (3, 2**64 - 1), (100, 7), (300, 12345678901234567890)]
 
 
@@ -64,7 +64,7 @@ def session(n, seed):
 
 
 def run(words, given=b""):
-    return subprocess.run([PROGRAM, *words], input=given, capture_output=True, timeout=60, check=False)
+    return subprocess.run([find_for_check("vt"), *words], input=given, capture_output=True, timeout=60, check=False)
 
 
 def hops_of(given):
@@ -102,9 +102,6 @@ def fault_of(n, seed):
 
 
 def main():
-    if not os.access(PROGRAM, os.X_OK):
-        print(f"check_drill.py: {PROGRAM}: no program is there (wanted: a built one)", file=sys.stderr)
-        return 2
     failed = 0
     for n, seed in DRILLS:
         why = fault_of(n, seed)

@@ -22,6 +22,7 @@ import sys
 import tempfile
 
 import check_pages
+from programs import find_for_check
 
 ROOT = pathlib.Path(__file__).resolve().parent.parent
 TOOLS, TESTS = ROOT / "tools", ROOT / "examples/tests"
@@ -276,8 +277,8 @@ def guided(given):
         for name, block in files:
             (at / name).write_text(re.sub("(?m)^ {4}", "", block), encoding="utf-8")
         targets = {
-            "vt": given.vt or ROOT / "crates/vt/out/vt",
-            "picture": given.picture or ROOT / "crates/example_picture/out/example_picture",
+            "vt": find_for_check("vt", given.vt),
+            "picture": find_for_check("picture", given.picture),
             "record.py": TOOLS / "record.py",
         }
         pythons = [it for it in (sys.executable, "/usr/bin/python3") if works(it, "-c", "import pyte")]

@@ -13,8 +13,11 @@ import re
 import subprocess
 import sys
 
+sys.dont_write_bytecode = True
+
+from programs import find_for_check  # noqa: E402: after the line that keeps tools/ clean
+
 ROOT = pathlib.Path(__file__).resolve().parent.parent
-PROGRAM = ROOT / "crates/vt/out/vt"
 SECONDS = 20
 
 # By the statuses of README.md: the line on err, and whether out may hold anything.
@@ -89,7 +92,8 @@ def stream(rng, size):
 
 def run(words, given):
     try:
-        return subprocess.run([PROGRAM, *words], input=given, capture_output=True, timeout=SECONDS, check=False)
+        words = [find_for_check("vt"), *words]
+        return subprocess.run(words, input=given, capture_output=True, timeout=SECONDS, check=False)
     except subprocess.TimeoutExpired:
         return None
 
@@ -191,9 +195,6 @@ def cut_journals(session, played):
 
 def main():
     count = int(sys.argv[1]) if len(sys.argv) > 1 else 100
-    if not PROGRAM.exists():
-        print(f"{PROGRAM.relative_to(ROOT)} isn't there: rt run in crates/vt makes it")
-        return 1
     read = lambda *names: [(ROOT / "examples" / name).read_bytes() for name in names]
     sessions, keymaps = read("session.toml", "tour.toml"), read("keymap")
     tables = [b"keys = \"1e 9e 2a 1e 9e aa\"\nmode = 3\nkeymap = '''\n" + keymap + b"'''\n" for keymap in keymaps]

@@ -30,6 +30,7 @@ import kbd_text
 import keymap
 import vt_names
 from kbd_text import KeymapError
+from programs import find_for_check
 
 ROOT = pathlib.Path(__file__).resolve().parent.parent
 FOLDER = ROOT / "examples/keymaps"
@@ -291,10 +292,9 @@ def page_faults():
 def main():
     parser = argparse.ArgumentParser(description="Checks that keymaps of kbd come in.")
     parser.add_argument("count", nargs="?", type=int, default=500, help="how many damaged keymaps (default: 500)")
-    parser.add_argument(
-        "--vt", default=compare_keymap.VT, metavar="PROGRAM", help="the program vt (default: crates/vt/out/vt)"
-    )
+    parser.add_argument("--vt", metavar="PROGRAM", help="the program vt; the one that tools/programs.py finds without it")
     asked = parser.parse_args()
+    asked.vt = find_for_check("vt", asked.vt)
     passed = failed = 0
     groups = [
         example_faults(asked.vt),

@@ -2,13 +2,13 @@
 """Checks that the examples of the pages print what the pages show.
 
 In README.md, the pages of docs/ and those of examples/ each indented line `$ COMMAND` is run from the top of the
-repository, and the indented lines after it have to be what it prints; a line `..` stands for any lines. So is each line `$ COMMAND` of an
-example in man/, where `vt` is crates/vt/out/vt; the examples of a session and of a keymap there have to be accepted,
-and each command of vt(1) has an example. docs/codes.md has a row for each code of tools/why.py. The adapter of
+repository, with the programs that tools/programs.py finds, and the indented lines after it have to be what it prints; a
+line `..` stands for any lines. So is each line `$ COMMAND` of an example in man/; the examples of a session and of a
+keymap there have to be accepted, and each command of vt(1) has an example. docs/codes.md has a row for each code of tools/why.py. The adapter of
 docs/guide/write-a-terminal.md answers a case. The lines of a journal that docs/guide/tour.md quotes have to stand in
 examples/tour.journal, in the same order. docs/guide/test-a-terminal-program.md is run by
 tools/check_expect.py, the programs of docs/guide/embed-a-crate.md by tools/check_snippets.py, and docs/library/c.md by
-tools/check_c.py. Prints a line for each difference. The status is 1 if there is one, and 2 if the program isn't built.
+tools/check_c.py. Prints a line for each difference. The status is 1 if there is one, and 2 if a program isn't built.
 """
 import json
 import os
@@ -18,8 +18,9 @@ import subprocess
 import sys
 import textwrap
 
+from programs import find_for_check, search_path
+
 TOP = pathlib.Path(__file__).resolve().parent.parent
-PROGRAM = TOP / "crates/vt/out/vt"
 SECONDS = 60
 # Pages whose commands another check runs, in a folder of their own.
 RUN_ELSEWHERE = ("test-a-terminal-program.md", "embed-a-crate.md", "display-server.md", "c.md")
@@ -44,8 +45,8 @@ def fits(lines, printed):
     return re.fullmatch("".join(parts), "".join(line.rstrip() + "\n" for line in printed if line.strip())) is not None
 
 
-def differences(page, examples_of_page):
-    path = f"{TOP}/crates/vt/out:{os.environ['PATH']}"
+def differences(page, examples_of_page, path=None):
+    path = path or search_path()
     for command, lines in examples_of_page:
         run = {"cwd": TOP, "env": {**os.environ, "PATH": path}, "stdin": subprocess.DEVNULL, "capture_output": True}
         try:
@@ -73,7 +74,7 @@ def manual_faults(page):
             command, *lines = block[2:].splitlines()
             yield from differences(page, [(command, lines)])
         elif page.name in TAKEN_BY:
-            words = [PROGRAM, TAKEN_BY[page.name]]
+            words = [find_for_check("vt"), TAKEN_BY[page.name]]
             ran = subprocess.run(words, input=block.encode(), capture_output=True, timeout=SECONDS, check=False)
             if ran.returncode:
                 yield f"{page.name}: its example is refused: {ran.stderr.decode('utf-8', 'replace')}"
@@ -110,7 +111,7 @@ def adapter_faults(page):
     if not block:
         yield f"{page.name}: no adapter"
         return
-    path = f"{PROGRAM.parent}:{os.environ['PATH']}"
+    path = search_path()
     case, wanted = {"case": 7, "rows": 2, "columns": 3, "pieces": ["a", "b\r\nc"]}, {"case": 7, "text": ["ab ", "c  "]}
     run = {"input": json.dumps(case) + "\n", "env": {**os.environ, "PATH": path}, "capture_output": True, "text": True}
     ran = subprocess.run([sys.executable, "-c", textwrap.dedent(block[0])], timeout=SECONDS, check=False, **run)
@@ -127,9 +128,7 @@ def code_faults():
 
 
 def main():
-    if not PROGRAM.exists():
-        print(f"{PROGRAM.relative_to(TOP)} is missing: `rt run` in crates/vt builds it (README.md, \"Install\")")
-        return 2
+    find_for_check("vt"), find_for_check("watch")
     pages = [TOP / "README.md", *sorted((TOP / "docs").rglob("*.md")), *sorted((TOP / "examples").glob("*/README.md"))]
     pages = [page for page in pages if page.name not in RUN_ELSEWHERE]
     manuals = sorted((TOP / "man").glob("*"))

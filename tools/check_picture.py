@@ -27,6 +27,8 @@ import tempfile
 import xml.etree.ElementTree as ElementTree
 import zlib
 
+from programs import find_for_check
+
 ROOT = pathlib.Path(__file__).resolve().parent.parent
 SVG = "{http://www.w3.org/2000/svg}"
 WIDTH, HEIGHT = 8, 16
@@ -310,15 +312,12 @@ def check_browser(check, program, browser):
 def main():
     """Runs the checks."""
     parser = argparse.ArgumentParser(usage=__doc__.split("usage: ")[1].split("\n")[0])
-    parser.add_argument("--picture", default=str(ROOT / "crates/example_picture/out/example_picture"))
-    parser.add_argument("--vt", default=str(ROOT / "crates/vt/out/vt"))
+    parser.add_argument("--picture")
+    parser.add_argument("--vt")
     parser.add_argument("--browser")
     parser.add_argument("--streams", type=int, default=40)
     given = parser.parse_args()
-    for program in [given.picture, given.vt]:
-        if not os.access(program, os.X_OK):
-            print(f"check_picture.py: {program}: no such program", file=sys.stderr)
-            return 2
+    given.picture, given.vt = str(find_for_check("picture", given.picture)), str(find_for_check("vt", given.vt))
     check = Check()
     check_rows(check, given.picture)
     check_cursors(check, given.picture)

@@ -4,7 +4,7 @@
 usage: check_redraw.py [N]
 
 Makes N byte streams (500 if there is no N) from fixed seeds, with every final byte of the effect table, text in UTF-8
-and bytes of the tables. `example_redraw` turns each into the text that draws its screen, or refuses. `vt play` writes
+and bytes of the tables. `redraw` turns each into the text that draws its screen, or refuses. `vt play` writes
 that text to a console which shows another stream's screen, and dumps it (vcs(4)): the characters, the attribute bytes
 and the cursor are those of a console that got the stream itself. Then both get the same bytes more, which show the
 pen, the modes, the tab stops, the region, the tables and the saved cursor, and are dumped again with their reports.
@@ -14,24 +14,21 @@ dump of the screen by docs/REDRAW.md ("What can be drawn"). The page's other rea
 no screen that bytes alone made. At least three quarters of the screens have to come back.
 
 Prints how many screens came back, how many were refused and how long the texts are; ends with status 1 if a screen
-didn't come back, was refused without such a cell or drawn in spite of it, or if too few came back, with 3 if a program
-isn't there or fails.
+didn't come back, was refused without such a cell or drawn in spite of it, or if too few came back, with 2 if a
+program isn't there, and with 3 if one fails.
 """
 import collections
 import concurrent.futures
 import os
-import pathlib
 import random
 import subprocess
 import sys
 import unicodedata
 
 from console_play import ATTRIBUTES, CODES, REPORTS, Console, bytes_of, items_of
+from programs import find_for_check
 from tool_files import Stop, number, reason
 
-ROOT = pathlib.Path(__file__).resolve().parent.parent
-REDRAW = ROOT / "crates/example_redraw/out/example_redraw"
-VT = ROOT / "crates/vt/out/vt"
 SECONDS = 20
 FINE, REFUSED = 0, 5
 # The right half of a character of two columns, in a dump of codes (docs/SCREEN.md).
@@ -89,11 +86,11 @@ def stream(rng):
 
 def text_of(size, given):
     """The text that draws the stream's screen, or None if it is refused."""
-    words = [str(REDRAW), *map(str, size)]
+    words = [str(find_for_check("redraw")), *map(str, size)]
     try:
         ran = subprocess.run(words, input=given, capture_output=True, timeout=SECONDS, check=False)
     except OSError as fault:
-        raise Stop(3, f"{REDRAW.relative_to(ROOT)}: {reason(fault)}: rt run in crates/example_redraw makes it") from None
+        raise Stop(3, f"{words[0]}: {reason(fault)}") from None
     except subprocess.TimeoutExpired:
         raise Stop(3, f"{' '.join(words)} didn't end within {SECONDS} s") from None
     if ran.returncode not in (FINE, REFUSED):
@@ -162,7 +159,8 @@ def main():
         raise Stop(1, f"check_redraw.py: {fault}") from None
     if len(sys.argv) > 2:
         raise Stop(1, "usage: check_redraw.py [N]")
-    console = Console(VT)
+    find_for_check("redraw")
+    console = Console(find_for_check("vt"))
     with concurrent.futures.ThreadPoolExecutor(os.cpu_count() or 1) as pool:
         results = list(pool.map(lambda i: judge(console, i), range(count)))
     kinds = collections.Counter(kind if kind in ("same", "refused") else "wrong" for kind, _, _ in results)

@@ -27,6 +27,8 @@ import sys
 import time
 import tty
 
+from programs import find_for_check
+
 ROOT = pathlib.Path(__file__).resolve().parent.parent
 SECONDS = 20
 STOPS = 3
@@ -218,10 +220,7 @@ def brief(ending):
 
 
 def main():
-    program = sys.argv[1] if len(sys.argv) > 1 else str(ROOT / "crates/vt/out/vt")
-    if not os.access(program, os.X_OK):
-        print(f"check_streams.py: {program}: no program is there (wanted: a built one)", file=sys.stderr)
-        return 2
+    program = str(find_for_check("vt", sys.argv[1] if len(sys.argv) > 1 else None))
     passed = failed = 0
     for runs in (failing_reads, failing_writes, interrupted_runs):
         try:

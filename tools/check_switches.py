@@ -11,8 +11,11 @@ import re
 import subprocess
 import sys
 
+sys.dont_write_bytecode = True
+
+from programs import find_for_check  # noqa: E402: after the line that keeps tools/ clean
+
 TOP = pathlib.Path(__file__).resolve().parent.parent
-PROGRAM = TOP / "crates/vt/out/vt"
 FOLDER = TOP / "examples/switches"
 GUIDE = TOP / "docs/guide/display-server.md"
 PROCESSES = """
@@ -50,24 +53,26 @@ def run(command, given):
 def session_faults(path):
     session = path.read_bytes()
     journal = path.with_suffix(".journal").read_text(encoding="utf-8")
-    status, printed, _ = run([PROGRAM, "play"], session)
+    status, printed, _ = run([find_for_check("vt"), "play"], session)
     if status or printed != journal:
         yield f"{path.name} doesn't give {path.stem}.journal"
     lines = journal.split("\n")
     end = next((number for number, line in enumerate(lines) if line.startswith("%end ")), 0)
-    status, printed, _ = run([PROGRAM, "check"], session + "".join(line + "\n" for line in lines[: end + 1]).encode())
+    given = session + "".join(line + "\n" for line in lines[: end + 1]).encode()
+    status, printed, _ = run([find_for_check("vt"), "check"], given)
     if status or printed != f"legal {end - 1}\n":
         yield f"{path.stem}.journal isn't a legal one of {path.name}"
 
 
 def turns_faults():
+    turns = [TOP / "tools/turns.py", "--vt", find_for_check("vt")]
     for path in sorted(FOLDER.glob("*.words")):
-        _, printed, message = run([TOP / "tools/turns.py", "--vt", PROGRAM, path], b"")
+        _, printed, message = run([*turns, path], b"")
         if printed != path.with_suffix(".toml").read_text(encoding="utf-8"):
             yield f"{path.name} doesn't become {path.stem}.toml: {message.strip()}"
     for words, wanted in WORDS:
         given = f"turns = {words}\n{PROCESSES}".encode()
-        status, printed, message = run([TOP / "tools/turns.py", "--vt", PROGRAM, "-"], given)
+        status, printed, message = run([*turns, "-"], given)
         if isinstance(wanted, str):
             good = (status, message) == (1, f"turns.py: {wanted}\n")
         else:

@@ -32,6 +32,7 @@ sys.dont_write_bytecode = True
 
 from browser import Browser, installed  # noqa: E402: after the line that keeps tools/ clean
 from check_hostile import mutated  # noqa: E402
+from programs import find_for_check  # noqa: E402
 from timeline_page import page  # noqa: E402
 from tool_files import Stop  # noqa: E402
 from watch_json import read_watch  # noqa: E402
@@ -292,12 +293,11 @@ def large():
 
 def main():
     parser = argparse.ArgumentParser(description="Checks the page that tools/timeline.py writes.")
-    parser.add_argument("--watch", default=str(ROOT / "crates/example_watch/out/example_watch"))
+    parser.add_argument("--watch")
     parser.add_argument("--browser", default=installed())
     parser.add_argument("--time", type=float)
     args = parser.parse_args()
-    if not pathlib.Path(args.watch).is_file():
-        raise Stop(2, f"{args.watch}: no program is there")
+    args.watch = find_for_check("watch", args.watch)
     check = Check()
     check_refused(check)
     with tempfile.TemporaryDirectory() as folder:

@@ -34,6 +34,7 @@ sys.dont_write_bytecode = True
 
 from check_hostile import mutated  # noqa: E402: after the line that keeps tools/ clean
 from check_pages import differences, examples  # noqa: E402
+from programs import find_for_check, search_path  # noqa: E402
 from race_sessions import last_call_session, longest_row, waiting_session, writing_session  # noqa: E402
 from second_reader import Disagrees, Reader, Unread, entries_of  # noqa: E402
 from switch_sessions import session  # noqa: E402
@@ -275,11 +276,11 @@ def quote_faults(watch):
                 entries = [[part.strip() for part in text.split("\n")] for text in re.split(r"\n(?! )", shown)]
 
 
-def guide_faults(watch):
+def guide_faults(vt, watch):
     """What the guide has of `watch` and isn't so."""
     yield from quote_faults(watch)
     commands = [(line, shown) for line, shown in examples(GUIDE.read_text(encoding="utf-8")) if "mine." not in line]
-    yield from differences(GUIDE, commands)
+    yield from differences(GUIDE, commands, search_path(vt=vt, watch=watch))
 
 
 def is_whole(printed):
@@ -294,13 +295,10 @@ def main():
     parser = argparse.ArgumentParser(description="Compares `watch json` with a second reader of journals.")
     parser.add_argument("count", nargs="?", type=int, default=200)
     parser.add_argument("--from", dest="first", type=int, default=0)
-    parser.add_argument("--watch", default=str(ROOT / "crates/example_watch/out/example_watch"))
-    parser.add_argument("--vt", default=str(ROOT / "crates/vt/out/vt"))
+    parser.add_argument("--watch")
+    parser.add_argument("--vt")
     args = parser.parse_args()
-    for program in (args.watch, args.vt):
-        if not pathlib.Path(program).is_file():
-            print(f"check_watch.py: {program}: no program is there", file=sys.stderr)
-            return 2
+    args.watch, args.vt = find_for_check("watch", args.watch), find_for_check("vt", args.vt)
     given = [(f"seed {seed}", session(seed), int(seed % 5 == 0)) for seed in range(args.first, args.first + args.count)]
     for path in [*sorted((ROOT / "examples/switches").glob("*.toml")), ROOT / "examples/tour.toml"]:
         given.append((path.name, path.read_text(encoding="utf-8"), 0))
@@ -311,7 +309,7 @@ def main():
     results += waking(args.watch, args.vt, seen)
     results += taking_turns(args.vt)
     results += hostile(args.watch, args.vt, args.count)
-    results += guide_faults(args.watch)
+    results += guide_faults(args.vt, args.watch)
     for why in results:
         passed, failed = passed + (why is None), failed + (why is not None)
         if why:

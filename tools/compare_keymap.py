@@ -24,8 +24,8 @@ import kbd_text
 import keymap
 import vt_names
 from kbd_text import KeymapError
+from programs import Missing, find
 
-VT = pathlib.Path(__file__).resolve().parent.parent / "crates/vt/out/vt"
 SECONDS = 120
 CHARACTER = r"'(\\[0-7]+|\\.|[^'])'"
 HOLE = 0xF200
@@ -256,7 +256,7 @@ def words():
     parser.add_argument(
         "files", metavar="FILE", nargs="+", help="a keymap, its name in kbd's folders, or - for standard input"
     )
-    parser.add_argument("--vt", default=VT, metavar="PROGRAM", help="the program vt (default: crates/vt/out/vt)")
+    parser.add_argument("--vt", metavar="PROGRAM", help="the program vt; the one that tools/programs.py finds without it")
     parser.add_argument("--back", action="store_true", help="compare the dump of the converted keymap")
     parser.add_argument("--charset", default="", metavar="C")
     parser.add_argument("--search", action="append", default=[], metavar="DIR")
@@ -266,8 +266,9 @@ def words():
 def main():
     asked = words()
     try:
+        asked.vt = find("vt", asked.vt)
         actions = same_actions(asked.vt)
-    except ProgramError as error:
+    except (Missing, ProgramError) as error:
         sys.stderr.write(f"compare_keymap.py: {error}\n")
         return 3
     found = set()

@@ -47,8 +47,7 @@ class Console:
         try:
             ran = subprocess.run(words, input=given, capture_output=True, timeout=SECONDS, check=False)
         except OSError as fault:
-            advice = "--vt has the path of vt, and rt run in crates/vt makes it"
-            raise Stop(3, f"{self.program}: {reason(fault)}: {advice}") from None
+            raise Stop(3, f"{self.program}: {reason(fault)}") from None
         except subprocess.TimeoutExpired:
             raise Stop(3, f"{' '.join(words)} didn't end within {SECONDS} s") from None
         if ran.returncode:

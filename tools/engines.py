@@ -17,8 +17,9 @@ import sys
 sys.dont_write_bytecode = True
 
 from conformance import compare, cutdown, engine_list, page  # noqa: E402: after the line that keeps tools/ clean
-from conformance.forms import PROGRAM, Fault, read_corpus  # noqa: E402
+from conformance.forms import Fault, read_corpus  # noqa: E402
 from conformance.words import in_words  # noqa: E402
+from programs import Missing, find  # noqa: E402
 
 
 def chosen(cases, name):
@@ -49,6 +50,7 @@ def shortest(program, engine, found):
 def run(given):
     """Runs what was named; gives the status."""
     cases = chosen(read_corpus(given.corpus), given.only)
+    program = find("vt", given.vt) if given.first else None
     engines = engine_list.engines(given)
     target = pathlib.Path(given.html or "page.html").absolute()
     if target.is_dir() or not target.parent.is_dir():
@@ -60,7 +62,7 @@ def run(given):
     lines = compare.table(cases, results)
     for engine in engines:
         lines += compare.notes(engine.name, results[engine.name])
-        lines += shortest(given.vt, engine, results[engine.name]) if given.first else []
+        lines += shortest(program, engine, results[engine.name]) if given.first else []
     lines += compare.agreed(results) if given.agreed else []
     if given.html:
         target.write_text(page.html(results), encoding="utf-8", errors="backslashreplace")
@@ -71,7 +73,7 @@ def run(given):
 def main():
     words = argparse.ArgumentParser(description=__doc__.split("\n\n")[0])
     words.add_argument("engine", nargs="*", metavar="ENGINE", help="vt, libvt, pyte, libvterm or tmux")
-    words.add_argument("--vt", default=PROGRAM, metavar="PROGRAM", help="the program vt")
+    words.add_argument("--vt", metavar="PROGRAM", help="the program vt; the one that tools/programs.py finds without it")
     words.add_argument("--command", action="append", default=[], metavar="'PROGRAM ..'", help="an engine of your own")
     words.add_argument("--device", type=int, metavar="N", help="console N of this machine")
     words.add_argument("--corpus", nargs="+", default=[], metavar="FILE", help="other files of cases")
@@ -87,7 +89,7 @@ def main():
     except BrokenPipeError:
         os.dup2(os.open(os.devnull, os.O_WRONLY), sys.stdout.fileno())
         return 2
-    except (Fault, OSError) as fault:
+    except (Fault, Missing, OSError) as fault:
         print(f"engines: {fault}", file=sys.stderr)
         return 2
 

@@ -18,8 +18,8 @@ A file has steps and assertions, a line each, in the form of libvterm's tests; r
     ?bells = N              how often the bell rang
     ?mode NAME = on         or off
 
-Each file is played by `vt play` (crates/vt/out/vt, or PATH): writes, dumps and reads. Prints a line an assertion as TAP
-has it, and below one that fails the wanted and the shown.
+Each file is played by `vt play` (the program at PATH, or the one that tools/programs.py finds): writes, dumps and reads.
+Prints a line an assertion as TAP has it, and below one that fails the wanted and the shown.
 
 Statuses: 0 every assertion holds; 1 one fails; 2 the words or a file aren't of the form, or a file can't be read, and
 nothing was played; 3 the program isn't there, or failed.
@@ -27,7 +27,6 @@ nothing was played; 3 the program isn't there, or failed.
 import argparse
 import concurrent.futures
 import os
-import pathlib
 import struct
 import sys
 import unicodedata
@@ -36,10 +35,10 @@ import console_play
 import console_probe
 from console_play import ATTRIBUTES, CODES
 from escapes import escaped
+from programs import find
 from test_form import HALF, MODES, read_test
 from tool_files import Stop
 
-PROGRAM = pathlib.Path(__file__).resolve().parent.parent / "crates/vt/out/vt"
 # The colours of an attribute byte, in the order that the VGA has.
 VGA = ("black", "blue", "green", "cyan", "red", "magenta", "yellow", "white")
 # What an assertion looks at.
@@ -250,11 +249,11 @@ def print_test(test, results, number):
 def run(words):
     """Reads all files, plays them, and prints what came of it."""
     form = Words(prog="expect.py", description=__doc__, formatter_class=argparse.RawDescriptionHelpFormatter)
-    form.add_argument("--vt", metavar="PATH", default=PROGRAM)
+    form.add_argument("--vt", metavar="PATH")
     form.add_argument("files", nargs="+", metavar="FILE.test")
     given = form.parse_args(words)
     tests = [read_test(path) for path in given.files]
-    console = console_play.Console(given.vt)
+    console = console_play.Console(find("vt", given.vt, 3))
     attribute_bytes = attribute_bytes_of(console, tests)
     print(f"TAP version 13\n1..{sum(len(test.checks) for test in tests)}")
     number = failed = 0

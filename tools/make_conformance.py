@@ -3,7 +3,7 @@
 
 `--check` writes nothing: it ends with status 1 if a stored file isn't what would be written. `--more SEED` prints cases
 made from that number instead, 100,000 of them or as many as `--count` names. `--vt PROGRAM` is the program; without it,
-the one that the repository builds. examples/conformance/README.md describes the form of a case.
+the one that tools/programs.py finds. examples/conformance/README.md describes the form of a case.
 """
 import argparse
 import itertools
@@ -14,7 +14,8 @@ from dataclasses import replace
 sys.dont_write_bytecode = True
 
 from conformance import cases, judge  # noqa: E402: after the line that keeps tools/ clean
-from conformance.forms import CORPUS, PROGRAM, Fault  # noqa: E402
+from conformance.forms import CORPUS, Fault  # noqa: E402
+from programs import Missing, find  # noqa: E402
 
 MORE = 100_000
 AT_A_TIME = 63 * 32
@@ -84,7 +85,7 @@ def more(program, seed, count):
 
 def main():
     words = argparse.ArgumentParser(description=__doc__.split("\n\n")[0])
-    words.add_argument("--vt", default=PROGRAM, metavar="PROGRAM", help="the program vt")
+    words.add_argument("--vt", metavar="PROGRAM", help="the program vt; the one that tools/programs.py finds without it")
     words.add_argument("--check", action="store_true", help="write nothing, compare the stored files")
     words.add_argument("--more", type=int, metavar="SEED", help="print cases made from a number")
     words.add_argument("--count", type=int, default=MORE, help="how many cases --more prints")
@@ -92,13 +93,14 @@ def main():
     try:
         if given.count < 1:
             raise Fault(f"--count {given.count}: a number from 1 was wanted")
+        given.vt = find("vt", given.vt)
         if given.more is not None:
             return more(given.vt, given.more, given.count)
         return check(given.vt) if given.check else write(given.vt)
     except BrokenPipeError:
         os.dup2(os.open(os.devnull, os.O_WRONLY), sys.stdout.fileno())
         return 2
-    except (Fault, OSError) as fault:
+    except (Fault, Missing, OSError) as fault:
         print(f"make_conformance: {fault}", file=sys.stderr)
         return 2
 

@@ -25,6 +25,7 @@ import kbd_names
 import keymap
 from compare_keymap import ProgramError, Verdict
 from kbd_text import KeymapError
+from programs import Missing, find
 
 KEYMAPS = pathlib.Path("/usr/share/keymaps")
 LAYOUTS = pathlib.Path("/usr/share/X11/xkb/rules/base.lst")
@@ -127,16 +128,15 @@ def figures(title, found):
 def main():
     parser = argparse.ArgumentParser(description="Makes the figures of docs/guide/bring-your-keymap.md.")
     parser.add_argument("--install", action="store_true", help="get kbd, console-data and console-setup by apt-get")
-    parser.add_argument(
-        "--vt", default=compare_keymap.VT, metavar="PROGRAM", help="the program vt (default: crates/vt/out/vt)"
-    )
+    parser.add_argument("--vt", metavar="PROGRAM", help="the program vt; the one that tools/programs.py finds without it")
     parser.add_argument("--jobs", default=1, type=int, metavar="N", help="compare so many at once (default: 1)")
     parser.add_argument("--layouts", default="", metavar="NAMES", help="layouts for ckbcomp (default: all of X's list)")
     asked = parser.parse_args()
     try:
         if asked.install:
             install()
-        same = (asked.vt, compare_keymap.same_actions(asked.vt))
+        program = find("vt", asked.vt)
+        same = (program, compare_keymap.same_actions(program))
         judge = functools.partial(compare_keymap.compare, *same)
         judge_back = functools.partial(compare_keymap.compare_back, *same)
         paths = sorted(KEYMAPS.glob("**/*.kmap.gz"))
@@ -149,7 +149,7 @@ def main():
             found += figures("compose pairs", verdicts(judge, composed(folder), asked.jobs))
             written = written_by_ckbcomp(asked.layouts.split(",") if asked.layouts else layouts(), folder)
             found += figures("ckbcomp", verdicts(judge, written, asked.jobs))
-    except (OSError, ProgramError, subprocess.CalledProcessError) as error:
+    except (Missing, OSError, ProgramError, subprocess.CalledProcessError) as error:
         sys.stderr.write(f"measure_keymaps.py: {error}\n")
         return 3
     return 1 if any(verdict.word == "different" for verdict in found) else 0

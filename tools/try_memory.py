@@ -8,11 +8,12 @@ is printed otherwise. The first four requests may be those of the words themselv
 then nothing is on err. Raced runs are left out: they may wait for ever. Wants a C compiler (cc), and isn't a part of the
 gate. Prints a line a run, and last 'N passed, M failed'; ends with status 1 if one fails, and 2 if there is no program.
 """
-import os
 import pathlib
 import subprocess
 import sys
 import tempfile
+
+from programs import find_for_check
 
 ROOT = pathlib.Path(__file__).resolve().parent.parent
 SECONDS = 20
@@ -98,10 +99,7 @@ def plain(program, words, given, more=None):
 
 
 def main():
-    program = sys.argv[1] if len(sys.argv) > 1 else str(ROOT / "crates/vt/out/vt")
-    if not os.access(program, os.X_OK):
-        print(f"try_memory.py: {program}: no program is there (wanted: a built one)", file=sys.stderr)
-        return 2
+    program = str(find_for_check("vt", sys.argv[1] if len(sys.argv) > 1 else None))
     passed = failed = 0
     with tempfile.TemporaryDirectory() as folder:
         shim, count = f"{folder}/refuse_memory.so", f"{folder}/count"

@@ -19,7 +19,6 @@ Exit status: 0 written, 1 the session or its words are refused, 2 the program do
 3 a file can't be read or written.
 """
 import argparse
-import pathlib
 import re
 import subprocess
 import sys
@@ -29,10 +28,9 @@ try:
 except ImportError:
     tomllib = None
 
+from programs import find
 from tool_files import Stop, read_file, write_file
 
-ROOT = pathlib.Path(__file__).resolve().parent.parent
-PROGRAM = ROOT / "crates/vt/out/vt"
 MOST_TURNS = 1_000_000
 CALLER = r"(k[0-3]|p[1-9][0-9]?)"
 FORMS = [
@@ -334,11 +332,11 @@ def main():
     parser = argparse.ArgumentParser(description="Writes a session whose turns are words as one with numbers.")
     parser.add_argument("session", help="the session, or - for standard input")
     parser.add_argument("-o", "--output", help="where the session is written; standard output without it")
-    parser.add_argument("--vt", default=str(PROGRAM), help="the program vt")
+    parser.add_argument("--vt", metavar="PATH", help="the program vt; the one that tools/programs.py finds without it")
     args = parser.parse_args()
     try:
         given = sys.stdin.buffer.read() if args.session == "-" else read_file(args.session, 3)
-        write_file(args.output, numbered(args.vt, given), 3)
+        write_file(args.output, numbered(str(find("vt", args.vt)), given), 3)
     except Stop as stop:
         print(f"turns.py: {stop}", file=sys.stderr)
         return stop.status

@@ -1,7 +1,7 @@
 #!/usr/bin/env python3
 """Explains the line that vt writes on err: the place in the input with a mark, what the code means, and what to do.
 
-usage: crates/vt/out/vt keys < FILE 2>&1 > /dev/null | tools/why.py FILE
+usage: vt keys < FILE 2>&1 > /dev/null | tools/why.py FILE
 
 It reads vt's standard error on its own standard input, and FILE is the input that vt read. It knows the codes of
 keymaps, of sessions and tables in TOML, and of journals, and the reasons of `check`. For an unknown symbol it prints

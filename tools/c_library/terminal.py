@@ -8,9 +8,10 @@ import struct
 import termios
 import time
 
+from programs import Missing, find
+
 from .bench import EXAMPLES, SANITIZERS, TOP
 
-PICTURE = TOP / "crates/example_picture/out/example_picture"
 LIMIT = 20
 ROWS, COLS = 24, 80
 # What it writes last: the wrap, the pen, the cursor and the screen as they were.
@@ -101,10 +102,10 @@ def check_drawing(bench, vt, program):
             is_same = inner == shown
         bench.holds(is_same, f"screen {number} is drawn in the terminal as it is")
         bench.holds(cursor == outer_cursor, f"the cursor of screen {number}: {cursor}, {outer_cursor}")
-        if PICTURE.exists():
-            drawn = bench.run([PICTURE, ROWS, COLS], written).stdout
+        try:
+            drawn = bench.run([find("picture"), ROWS, COLS], written).stdout
             bench.holds(picture.read_bytes() == drawn, f"the picture of screen {number} is that of example_picture")
-        else:
+        except Missing:
             bench.holds(picture.read_bytes().startswith(b"<svg "), "the picture is written")
 
 

@@ -4,6 +4,8 @@ import pathlib
 import shutil
 import subprocess
 
+from programs import find
+
 from . import judge
 from .adapters import Program
 from .device import Device
@@ -13,7 +15,7 @@ from .tmux import Tmux
 HERE = pathlib.Path(__file__).resolve().parent
 BUILT = HERE / "out"
 # What the driver in C of an engine stands on.
-WANTED = {"libvterm": "Debian's libvterm-dev", "libvt": "the library in out/c, which tools/build_c.sh makes"}
+WANTED = {"libvterm": "Debian's libvterm-dev", "libvt": "the library in out/c, which tools/build.py makes"}
 
 
 class Vt:
@@ -29,15 +31,22 @@ class Vt:
         return judge.judge(self.program, cases)
 
 
+def built_folder():
+    """The folder of the compiled adapters: beside their sources, or in the user's cache if that can't be written."""
+    if os.access(BUILT if BUILT.exists() else HERE, os.W_OK):
+        return BUILT
+    return pathlib.Path(os.environ.get("XDG_CACHE_HOME") or "~/.cache").expanduser() / "vt"
+
+
 def driver(name, *options):
     """The adapter in C of an engine, compiled where it is missing or older than its sources."""
-    source, built = HERE / f"{name}.c", BUILT / name
+    source, built = HERE / f"{name}.c", built_folder() / name
     newest = max(file.stat().st_mtime for file in (source, HERE / "adapter.h", *(HERE / it for it in options if isinstance(it, pathlib.Path))))
     if not built.exists() or built.stat().st_mtime < newest:
         compiler = shutil.which("cc") or shutil.which("gcc")
         if not compiler:
             raise Fault(f"{name}: a C compiler was wanted for tools/conformance/{name}.c")
-        BUILT.mkdir(exist_ok=True)
+        built.parent.mkdir(parents=True, exist_ok=True)
         part = f"{built}.{os.getpid()}"
         words = [compiler, "-O2", "-o", part, source, *options]
         ran = subprocess.run(words, capture_output=True, text=True, check=False)
@@ -67,7 +76,7 @@ def pyte():
 
 def engines(given):
     """The engines that the words name: vt where they name none."""
-    makers = {"vt": lambda: Vt(given.vt), "libvt": libvt, "pyte": pyte}
+    makers = {"vt": lambda: Vt(find("vt", given.vt)), "libvt": libvt, "pyte": pyte}
     makers |= {"libvterm": lambda: driver("libvterm", "-lvterm"), "tmux": Tmux}
     names = list(dict.fromkeys(given.engine))
     unknown = [name for name in names if name not in makers]

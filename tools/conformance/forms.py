@@ -9,7 +9,6 @@ from dataclasses import dataclass, replace
 
 TOP = pathlib.Path(__file__).resolve().parent.parent.parent
 CORPUS = TOP / "examples" / "conformance"
-PROGRAM = TOP / "crates" / "vt" / "out" / "vt"
 
 # The five parts of what stands after a case, in the order in which they are compared.
 PARTS = ("text", "cursor", "attributes", "reports", "bells")

@@ -1,0 +1,1 @@
+"""Builds programs and the C library without proofs: the parts of tools/build.py."""
