@@ -126,11 +126,13 @@ def undrawable_cell(size, attributes, codes):
     if list(attributes[:2]) != [rows, columns] or len(cells) != rows * columns or len(colours) != rows * columns:
         raise Stop(3, f"the dumps of a screen of {rows} by {columns} have another size")
     for place, code in enumerate(cells):
-        before = cells[place - 1] if place % columns else None
-        follows_wide = before is not None and is_wide(before)
-        is_right = follows_wide and colours[place] == colours[place - 1] if code == HALF else prints_itself(code)
-        has_no_half = is_wide(code) and (place % columns == columns - 1 or cells[place + 1] != HALF)
-        if not is_right or has_no_half:
+        if code == HALF:
+            follows = place % columns > 0 and is_wide(cells[place - 1])
+            is_right = follows and colours[place] == colours[place - 1]
+        else:
+            is_right = prints_itself(code)
+        is_cut = is_wide(code) and (place % columns == columns - 1 or cells[place + 1] != HALF)
+        if not is_right or is_cut:
             return f"the cell in row {place // columns}, column {place % columns} has the code {code:X}"
     return None
 

@@ -13,9 +13,9 @@ check` and its line. The lines of `watch` that docs/guide/display-server.md quot
 the session named before them, and its commands have to print what it shows.
 
 Two sessions of tools/race_sessions.py are compared in the same way and raced several times: one of 64 processes, of which
-60 wait, and one whose last call ends a wait. A race has SECONDS (60) to end: where a caller whose wait has ended isn't
-woken, it never does. Races on one processor show that the callers take turns: in the middle one of their journals by
-this length, no caller has more than MOST_IN_A_ROW (200) entries in a row while another one has calls to make.
+60 wait, and one whose last call ends a wait. A race has SECONDS (60) to end: if a caller whose wait has ended isn't
+woken, it never does. Races on one processor show that the callers take turns: a caller has at most MOST_IN_A_ROW (200)
+entries in a row while another one has calls to make. Of five races the middle one by this number counts.
 
 Prints a line for each difference and last 'N passed, M failed'. Ends with status 1 if one fails, 2 if a program is
 missing or the words are wrong.
@@ -193,7 +193,7 @@ def journal_part(printed):
 
 
 def compare(watch, vt, name, text, races, seen):
-    """Gives the result of each comparison of one session, which is played and so often raced."""
+    """Gives the result of each comparison of one session, which is played once and raced this many times."""
     for how in ["play", *["race"] * races]:
         try:
             played = run([vt, how], text.encode())
@@ -231,9 +231,8 @@ def taking_turns(vt):
             yield f"a race of four writing processes: status {raced.returncode}"
             return
         rows.append(longest_row(raced.stdout.decode()))
-    middle = sorted(rows)[RACES // 2]
-    is_so = 0 < middle <= MOST_IN_A_ROW
-    yield None if is_so else f"races of four writing processes: {rows} entries of one caller in a row, not {MOST_IN_A_ROW}"
+    is_so = 0 < sorted(rows)[RACES // 2] <= MOST_IN_A_ROW
+    yield None if is_so else f"races of four writing processes: {rows} entries of one caller in a row"
 
 
 def hostile(watch, vt, count):
