@@ -12,7 +12,8 @@ usage: check_c.py [--library OUT | --gate] [--vt PROGRAM] [--only CHECK,..] [--r
 - `keys`, `faults`: N random runs of keys (1,000) are typed as `vt type` does; faults of keymaps are those of `vt keys`.
 - `terminal`: examples/c/term.c on a pseudo-terminal. `programs`: vim, less, htop, dialog and mc in it, in tmux.
 - `python`, `rust`: the tests of the bindings. `fuzz`: the fuzzer's corpus (tools/fuzz_c.sh looks for more).
-- `install`: tools/install.sh into a folder, and programs that are compiled by pkg-config there.
+- `install`: tools/install.sh into a folder, and programs that are linked by pkg-config there, with the shared object
+  and with the archive alone.
 - `guide`: the files and commands of docs/library/c.md, in an empty folder.
 
 OUT is a folder that tools/build_c.sh filled; without it the library is built first, with --gate over the crates that
@@ -40,6 +41,11 @@ from programs import find_for_check  # noqa: E402
 from tool_files import Stop, number  # noqa: E402
 
 HEADER = TOP / "include/vt.h"
+# How a program is linked with the installed library.
+LINKS = {
+    "shared": "$(pkg-config --cflags --libs vt)",
+    "static": "-Wl,-Bstatic $(pkg-config --static --cflags --libs vt) -Wl,-Bdynamic",
+}
 WRAPPED = [f"-Wl,--wrap={name}" for name in ("malloc", "realloc", "free")]
 
 
@@ -155,8 +161,23 @@ def check_fuzz(bench):
     bench.holds(ran.returncode == 0, f"the fuzzer's corpus runs:\n{said}")
 
 
+def check_link(bench, kind):
+    """A program is linked with the library in the folder `here`, and draws; without the shared object if it is static."""
+    program, folder = bench.folder / f"screen.{kind}", bench.folder / "here/lib"
+    environment = {**os.environ, "PKG_CONFIG_PATH": str(folder / "pkgconfig")}
+    words = ["sh", "-c", f"cc -o {program} {EXAMPLES}/screen.c {LINKS[kind]}"]
+    if bench.ends_well(words, f"screen.c by pkg-config, {kind}", env=environment).returncode:
+        return
+    said = bench.run(["readelf", "-d", program]).stdout.decode()
+    needed = re.findall(r"NEEDED.*\[(libvt.*)\]", said)
+    bench.holds(needed == ["libvt.so.1"] * (kind == "shared"), f"a {kind} program needs the shared object or not: {needed}")
+    run = {**os.environ, "LD_LIBRARY_PATH": str(folder) if kind == "shared" else ""}
+    ran = bench.run([program, 2, 5], b"abcdefghijk", env=run)
+    bench.holds(ran.stdout == b"|fghij|\n|k    |\n", f"a {kind} program draws")
+
+
 def check_install(bench):
-    bench.needs("pkg-config")
+    bench.needs("pkg-config", "readelf")
     below = bench.folder / "below"
     # The tool takes what stands in out/c of its clone.
     built = TOP / "out/c/lib/libvt.a"
@@ -171,13 +192,8 @@ def check_install(bench):
     prefix = (below / "opt/vt/lib/pkgconfig/vt.pc").read_text().splitlines()[0]
     bench.holds(prefix == "prefix=/opt/vt", f"vt.pc has the prefix: {prefix}")
     bench.ends_well([*install, bench.folder / "here"], "install.sh without DESTDIR")
-    environment = {**os.environ, "PKG_CONFIG_PATH": str(bench.folder / "here/lib/pkgconfig")}
-    for kind, options in (("shared", ""), ("static", "--static")):
-        command = f"cc -o {bench.folder}/one {EXAMPLES}/screen.c $(pkg-config {options} --cflags --libs vt)"
-        bench.ends_well(["sh", "-c", command], f"screen.c by pkg-config, {kind}", env=environment)
-        run = {**os.environ, "LD_LIBRARY_PATH": str(bench.folder / "here/lib")}
-        ran = bench.run([bench.folder / "one", 2, 5], b"abcdefghijk", env=run)
-        bench.holds(ran.stdout == b"|fghij|\n|k    |\n", "the program that was installed for draws")
+    for kind in LINKS:
+        check_link(bench, kind)
     for words in (["-x"], ["a", "b"]):
         ran = bench.run([TOP / "tools/build_c.sh", *words])
         bench.holds(ran.returncode == 1 and b"usage" in ran.stderr, f"build_c.sh {words} ends with 1")

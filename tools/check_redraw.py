@@ -8,8 +8,14 @@ and bytes of the tables. `redraw` turns each into the text that draws its screen
 that text to a console which shows another stream's screen, and dumps it (vcs(4)): the characters, the attribute bytes
 and the cursor are those of a console that got the stream itself. Then both get the same bytes more, which show the
 pen, the modes, the tab stops, the region, the tables and the saved cursor, and are dumped again with their reports.
+
+A screen may be refused only if no text draws one of its cells, and has to be then: a second reading goes through the
+dump of the screen by docs/REDRAW.md ("What can be drawn"). The page's other reasons, which are about the state, apply to
+no screen that bytes alone made. At least three quarters of the screens have to come back.
+
 Prints how many screens came back, how many were refused and how long the texts are; ends with status 1 if a screen
-didn't come back, with 2 if a program isn't there, and with 3 if one fails.
+didn't come back, was refused without such a cell or drawn in spite of it, or if too few came back, with 2 if a
+program isn't there, and with 3 if one fails.
 """
 import collections
 import concurrent.futures
@@ -17,13 +23,16 @@ import os
 import random
 import subprocess
 import sys
+import unicodedata
 
-from console_play import ATTRIBUTES, CODES, REPORTS, Console, items_of
+from console_play import ATTRIBUTES, CODES, REPORTS, Console, bytes_of, items_of
 from programs import find_for_check
 from tool_files import Stop, number, reason
 
 SECONDS = 20
 FINE, REFUSED = 0, 5
+# The right half of a character of two columns, in a dump of codes (docs/SCREEN.md).
+HALF = 0x110000
 
 SIZES = [(1, 1), (1, 9), (2, 2), (3, 7), (4, 40), (5, 17), (6, 80), (7, 23)]
 WORDS = ["a", "word", "Grüße", "中文", "é̄", "▒█", "  ", "x" * 30]
@@ -96,15 +105,50 @@ def shown(console, size, steps):
     return answers[:2] + answers[3:]
 
 
+def prints_itself(code):
+    """Whether a code is that of a character of one column or two which isn't a control character."""
+    if not (0x20 <= code <= 0x7E or 0xA0 <= code <= 0x10FFFF) or 0xD800 <= code <= 0xDFFF:
+        return False
+    return unicodedata.category(chr(code)) not in ("Mn", "Me", "Cf")
+
+
+def is_wide(code):
+    """Whether a code is that of a character of two columns."""
+    return code < HALF and unicodedata.east_asian_width(chr(code)) in ("W", "F")
+
+
+def undrawable_cell(size, attributes, codes):
+    """The place and the code of the first cell that no text draws, by docs/REDRAW.md, or None."""
+    rows, columns = size
+    cells = [int.from_bytes(codes[at : at + 4], "little") for at in range(0, len(codes), 4)]
+    # (a dump with attributes begins with four numbers, and has a character and a byte for each cell)
+    colours = attributes[5::2]
+    if list(attributes[:2]) != [rows, columns] or len(cells) != rows * columns or len(colours) != rows * columns:
+        raise Stop(3, f"the dumps of a screen of {rows} by {columns} have another size")
+    for place, code in enumerate(cells):
+        if code == HALF:
+            follows = place % columns > 0 and is_wide(cells[place - 1])
+            is_right = follows and colours[place] == colours[place - 1]
+        else:
+            is_right = prints_itself(code)
+        is_cut = is_wide(code) and (place % columns == columns - 1 or cells[place + 1] != HALF)
+        if not is_right or is_cut:
+            return f"the cell in row {place // columns}, column {place % columns} has the code {code:X}"
+    return None
+
+
 def judge(console, i):
     """How a screen came back: 'same', 'refused' or why not; and the bytes of its text and its cells."""
     rng = random.Random(f"redraw {i}")
     size = rng.choice(SIZES)
     given, other = stream(rng), stream(rng)
-    text = text_of(size, given)
+    text, wanted = text_of(size, given), shown(console, size, [given])
+    bad = undrawable_cell(size, *map(bytes_of, wanted[:2]))
     if text is None:
-        return "refused", 0, 0
-    wanted, got = shown(console, size, [given]), shown(console, size, [other + text])
+        return "refused" if bad else "it was refused, and each cell has a character that prints itself", 0, 0
+    if bad:
+        return f"it wasn't refused, and {bad}", len(text), size[0] * size[1]
+    got = shown(console, size, [other + text])
     names = ["characters, attributes or cursor", "codes", "reports", "attributes behind the probe", "codes behind the probe"]
     wrong = [name for name, a, b in zip(names, wanted, got, strict=True) if a != b]
     return f"{', '.join(wrong)} of {size[0]} by {size[1]}" if wrong else "same", len(text), size[0] * size[1]
@@ -126,8 +170,11 @@ def main():
         if kind not in ("same", "refused"):
             print(f"screen {i}: {kind}")
     text, cells = sum(length for _, length, _ in results), sum(cells for _, _, cells in results)
+    least = 3 * count // 4
+    if kinds["same"] < least:
+        print(f"too few screens came back: {least} were wanted")
     print(f"{kinds['same']} screens came back, {kinds['wrong']} didn't, {kinds['refused']} weren't redrawable;", f"{text} bytes for {cells} cells")
-    return 1 if kinds["wrong"] else 0
+    return 1 if kinds["wrong"] or kinds["same"] < least else 0
 
 
 if __name__ == "__main__":

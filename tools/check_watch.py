@@ -12,11 +12,18 @@ too. In the form for a person each entry has to have the same facts. Damaged inp
 check` and its line. The lines of `watch` that docs/guide/display-server.md quotes have to stand below their entry, in
 the session named before them, and its commands have to print what it shows.
 
+Two sessions of tools/race_sessions.py are compared in the same way and raced several times: one of 64 processes, of which
+60 wait, and one whose last call ends a wait. A race has SECONDS (60) to end: if a caller whose wait has ended isn't
+woken, it never does. Races on one processor show that the callers take turns: a caller has at most MOST_IN_A_ROW (200)
+entries in a row while another one has calls to make. Of five races the middle one by this number counts.
+
 Prints a line for each difference and last 'N passed, M failed'. Ends with status 1 if one fails, 2 if a program is
 missing or the words are wrong.
 """
 import argparse
+import functools
 import json
+import os
 import pathlib
 import random
 import re
@@ -28,6 +35,7 @@ sys.dont_write_bytecode = True
 from check_hostile import mutated  # noqa: E402: after the line that keeps tools/ clean
 from check_pages import differences, examples  # noqa: E402
 from programs import find_for_check, search_path  # noqa: E402
+from race_sessions import last_call_session, longest_row, waiting_session, writing_session  # noqa: E402
 from second_reader import Disagrees, Reader, Unread, entries_of  # noqa: E402
 from switch_sessions import session  # noqa: E402
 from tool_files import Stop  # noqa: E402
@@ -36,6 +44,7 @@ from watch_json import read_watch  # noqa: E402
 ROOT = pathlib.Path(__file__).resolve().parent.parent
 GUIDE = ROOT / "docs/guide/display-server.md"
 SECONDS = 60
+RACES, MOST_IN_A_ROW = 5, 200
 ERRORS = {
     "err 1": "EPERM", "err 3": "ESRCH", "err 4": "EINTR", "err 6": "ENXIO", "err 9": "EBADF", "err 11": "EAGAIN",
     "err 16": "EBUSY", "err 22": "EINVAL", "err 25": "ENOTTY",
@@ -46,11 +55,15 @@ LINES = {
 }  # fmt: skip
 
 
-def run(command, given):
+class Late(Stop):
+    """A program that didn't end in time."""
+
+
+def run(command, given, **how):
     try:
-        return subprocess.run(command, input=given, capture_output=True, timeout=SECONDS, check=False)
+        return subprocess.run(command, input=given, capture_output=True, timeout=SECONDS, check=False, **how)
     except subprocess.TimeoutExpired:
-        raise Stop(2, f"{command}: it didn't end within {SECONDS} s") from None
+        raise Late(2, f"{' '.join(map(str, command))}: it didn't end within {SECONDS} s") from None
 
 
 def order_of(caller):
@@ -179,10 +192,14 @@ def journal_part(printed):
     return printed[: end.end()]
 
 
-def compare(watch, vt, name, text, is_raced, seen):
-    """Gives the result of each comparison of one session."""
-    for how in ["play", "race"] if is_raced else ["play"]:
-        played = run([vt, how], text.encode())
+def compare(watch, vt, name, text, races, seen):
+    """Gives the result of each comparison of one session, which is played once and raced this many times."""
+    for how in ["play", *["race"] * races]:
+        try:
+            played = run([vt, how], text.encode())
+        except Late as late:
+            yield f"{name}: {late}; is a caller asleep whose wait has ended?"
+            return
         if played.returncode not in (0, 7):
             yield f"{name}: vt {how}: status {played.returncode}"
             continue
@@ -194,6 +211,28 @@ def compare(watch, vt, name, text, is_raced, seen):
         given = re.sub(r"(?m)^turns = \[.*\]\n", "", text) + journal_part(printed)
         why = faults_of(watch, given.encode(), text, printed, [])
         yield f"{name}, with the journal of vt {how}: {why}" if why else None
+
+
+def waking(watch, vt, seen):
+    """Gives the result of each comparison of the sessions in which callers have to be woken."""
+    yield from compare(watch, vt, "60 waiting processes", waiting_session(), RACES, seen)
+    yield from compare(watch, vt, "a last call that ends a wait", last_call_session(), RACES, seen)
+
+
+def taking_turns(vt):
+    """Gives the result of races in which every caller has calls to make all the time. They run on one processor, where a
+    worker that never lets the others go on makes thousands of calls in a row."""
+    on_one = functools.partial(os.sched_setaffinity, 0, {min(os.sched_getaffinity(0))})
+    text = writing_session(4, 3000).encode()
+    rows = []
+    for _ in range(RACES):
+        raced = run([vt, "race"], text, preexec_fn=on_one)
+        if raced.returncode:
+            yield f"a race of four writing processes: status {raced.returncode}"
+            return
+        rows.append(longest_row(raced.stdout.decode()))
+    is_so = 0 < sorted(rows)[RACES // 2] <= MOST_IN_A_ROW
+    yield None if is_so else f"races of four writing processes: {rows} entries of one caller in a row"
 
 
 def hostile(watch, vt, count):
@@ -259,13 +298,15 @@ def main():
     parser.add_argument("--vt")
     args = parser.parse_args()
     args.watch, args.vt = find_for_check("watch", args.watch), find_for_check("vt", args.vt)
-    given = [(f"seed {seed}", session(seed), seed % 5 == 0) for seed in range(args.first, args.first + args.count)]
+    given = [(f"seed {seed}", session(seed), int(seed % 5 == 0)) for seed in range(args.first, args.first + args.count)]
     for path in [*sorted((ROOT / "examples/switches").glob("*.toml")), ROOT / "examples/tour.toml"]:
-        given.append((path.name, path.read_text(encoding="utf-8"), False))
+        given.append((path.name, path.read_text(encoding="utf-8"), 0))
     seen, passed, failed = [], 0, 0
     results = []
-    for name, text, is_raced in given:
-        results += compare(args.watch, args.vt, name, text, is_raced, seen)
+    for name, text, races in given:
+        results += compare(args.watch, args.vt, name, text, races, seen)
+    results += waking(args.watch, args.vt, seen)
+    results += taking_turns(args.vt)
     results += hostile(args.watch, args.vt, args.count)
     results += guide_faults(args.vt, args.watch)
     for why in results:

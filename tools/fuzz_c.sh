@@ -3,11 +3,16 @@
 #
 # usage: tools/fuzz_c.sh [--library OUT] [--keep] [SECONDS]
 #
-# OUT is a folder that tools/build_c.sh filled (out/c in the clone, if there is none). Runs so many seconds (60), or with
-# 0 only the inputs of c/test/corpus.hex, a line in hexadecimal digits each. New inputs are deleted at the end; with --keep
-# those that reach more of the test's own code are added to that file. c/test/fuzz.dict has the sequences that inputs are
-# made of. It wants clang with libFuzzer, and Python. Status 1: a fault was found, and the input is written to the folder
-# fault- and the time; 2: something is missing; 77: clang has no libFuzzer.
+# The library is built without proofs, by tools/build_counted.py, so that libFuzzer counts what an input reaches inside it,
+# and keeps the inputs that reach more. With --library it is the archive of a folder OUT that tools/build_c.sh filled, in
+# which nothing is counted: so that the inputs of the corpus run on what was proved. The last lines have how many edges of
+# the code there are and how many were reached (cov).
+#
+# Runs so many seconds (60), or with 0 only the inputs of c/test/corpus.hex, a line in hexadecimal digits each. New inputs
+# are deleted at the end; with --keep that file gets as few inputs as reach every edge that was reached. c/test/fuzz.dict
+# has the sequences that inputs are made of. It wants clang with libFuzzer, and Python; without --library also the Rattle
+# toolchain (rt). Status 1: a fault was found, and the input is written to the folder fault- and the time; 2: something is
+# missing; 77: clang has no libFuzzer.
 set -eu
 
 stop() {
@@ -15,8 +20,11 @@ stop() {
     exit 2
 }
 
+# The edges of fuzz.c alone are fewer than half as many.
+FEWEST=1000
+
 top=$(cd "$(dirname "$0")/.." && pwd)
-library=$top/out/c
+library=
 keep=
 while :; do
     case "${1-}" in
@@ -29,14 +37,22 @@ done
 [ $# -le 1 ] || stop "usage: fuzz_c.sh [--library OUT] [--keep] [SECONDS]"
 seconds=${1-60}
 case $seconds in '' | *[!0-9]* | ??????*) stop "$seconds: seconds from 0 to 99999 were wanted" ;; esac
-[ -f "$library/lib/libvt.a" ] || stop "$library/lib/libvt.a isn't there: tools/build_c.sh makes it"
+[ -z "$library" ] || [ -f "$library/lib/libvt.a" ] || stop "$library/lib/libvt.a isn't there: tools/build_c.sh makes it"
 command -v clang > /dev/null || stop "clang isn't there"
+[ -z "$keep" ] || [ -z "$library" ] || stop "--keep wants a library that is counted, so no --library"
 
 work=$(mktemp -d)
 trap 'rm -rf "$work"' EXIT
 trap 'exit 1' HUP INT TERM
+if [ -n "$library" ]; then
+    set -- "$library/lib/libvt.a"
+else
+    "$top/tools/build_counted.py" "$top/out/counted" || stop "the library isn't built"
+    clang -std=c11 -O2 -c "$top/c/heap.c" -o "$work/heap.o" || stop "c/heap.c isn't compiled"
+    set -- "$top/out/counted/vt.o" "$work/heap.o"
+fi
 clang -std=c11 -O1 -g -Wall -Wextra -Werror -fsanitize=fuzzer,address,undefined -fno-sanitize-recover=all \
-    "-I$library/include" -o "$work/fuzz" "$top/c/test/fuzz.c" "$library/lib/libvt.a" 2> "$work/why" || {
+    "-I$top/include" -o "$work/fuzz" "$top/c/test/fuzz.c" "$@" 2> "$work/why" || {
     head -n 5 "$work/why" >&2
     grep -q 'fuzzer' "$work/why" && exit 77
     stop "c/test/fuzz.c isn't compiled"
@@ -55,14 +71,18 @@ else
     "$work/fuzz" -max_total_time="$seconds" -max_len=4096 -dict="$top/c/test/fuzz.dict" \
         -artifact_prefix="$work/fault-" "$work/new" "$corpus" > "$work/log" 2>&1 || status=1
 fi
+edges=$(sed -n 's/^INFO: Loaded .*(\([0-9]*\) inline 8-bit counters).*/\1/p' "$work/log")
 grep -E '^(Done|stat::number_of_executed|#.*DONE)' "$work/log" || true
+echo "edges of the code: ${edges:-none}"
+[ -n "$library" ] || [ "${edges:-0}" -ge "$FEWEST" ] || stop "nothing is counted inside the library"
 if [ "$status" -ne 0 ]; then
     tail -n 40 "$work/log" >&2
     folder=fault-$(date +%Y%m%d%H%M%S)
     mkdir "$folder" && cp "$work"/fault-* "$folder/" && echo "fuzz_c.sh: the input is in $folder" >&2
 elif [ -n "$keep" ]; then
     mkdir "$work/least"
-    "$work/fuzz" -merge=1 "$work/least" "$corpus" "$work/new" > "$work/log" 2>&1
+    "$work/fuzz" -set_cover_merge=1 -runs=0 "$work/least" "$corpus" "$work/new" > "$work/log" 2>&1
+    [ -n "$(ls "$work/least")" ] || stop "this libFuzzer can't choose inputs (-set_cover_merge): LLVM 14 can"
     python3 - "$work/least" > "$top/c/test/corpus.hex" << 'END'
 import pathlib, sys
 inputs = sorted((file.read_bytes() for file in pathlib.Path(sys.argv[1]).iterdir()), key=lambda it: (len(it), it))

@@ -52,10 +52,14 @@ fn cell_at(grid: &Grid, y: u8, x: u8) -> Cell {
     }
 }
 
-// Whether a row holds these characters, and blanks after them, all in the start colours.
-fn has_row(grid: &Grid, y: u8, text: &str) -> bool {
+// Whether a grid has this size, and a row of it these characters, and blanks after them, all in the start
+// colours.
+fn has_row(grid: &Grid, size: Size, y: u8, text: &str) -> bool {
+    if grid.size() != size {
+        return false;
+    }
     let mut characters = text.chars();
-    for x in 0..grid.size().cols {
+    for x in 0..size.cols {
         let code = match characters.next() {
             Some(c) => c as u32,
             None => 0x20,
@@ -67,24 +71,29 @@ fn has_row(grid: &Grid, y: u8, text: &str) -> bool {
     characters.next().is_none()
 }
 
-// Whether the rows that the grid has hold these texts, and the rows after the last text are blank.
-fn has_rows(grid: &Grid, rows: &[&str]) -> bool {
-    for y in 0..grid.size().rows {
+// Whether a grid has this size, its rows hold these texts, and the rows after the last text are blank.
+fn has_rows(grid: &Grid, size: Size, rows: &[&str]) -> bool {
+    if rows.len() > usize::from(size.rows) {
+        return false;
+    }
+    for y in 0..size.rows {
         let text = match rows.get(usize::from(y)) {
             Some(text) => *text,
             None => "",
         };
-        if !has_row(grid, y, text) {
+        if !has_row(grid, size, y, text) {
             return false;
         }
     }
     true
 }
 
-// Whether these are the attribute bytes of the first cell and of the last one of its row.
-fn has_attributes(grid: &Grid, first: u8, last: u8) -> bool {
-    let size = grid.size();
-    cell_at(grid, 0, 0).attr == first && cell_at(grid, 0, size.cols - 1).attr == last
+// Whether a grid has this size, and these are the attribute bytes of its first cell and of the last one of
+// that row.
+fn has_attributes(grid: &Grid, size: Size, first: u8, last: u8) -> bool {
+    grid.size() == size
+        && cell_at(grid, 0, 0).attr == first
+        && cell_at(grid, 0, size.cols.saturating_sub(1)).attr == last
 }
 
 // Whether the cursor is in this column and row, and a wrap is pending or not.
@@ -100,8 +109,8 @@ enum Way {
     Plainly,
 }
 
-// Feeds a text of at most 64 bytes, and returns the number of its side effects.
-fn fed(emu: &mut Emu, way: Way, text: &[u8]) -> usize {
+// Feeds a text of at most 64 bytes, and returns its side effects. A longer text isn't fed.
+fn fed(emu: &mut Emu, way: Way, text: &[u8]) -> Outs {
     let mut outs = Outs::new();
     if text.len() <= 64 {
         match way {
@@ -109,7 +118,25 @@ fn fed(emu: &mut Emu, way: Way, text: &[u8]) -> usize {
             Way::Plainly => emu.feed_plainly(text, &mut outs),
         }
     }
-    outs.as_slice().len()
+    outs
+}
+
+// The number of BELs, if all of these side effects are BELs.
+fn bells_of(outs: &[Out]) -> Option<usize> {
+    for out in outs {
+        if !matches!(out, Out::Bell) {
+            return None;
+        }
+    }
+    Some(outs.len())
+}
+
+// Whether these are so many BELs in two parts, and nothing else.
+fn are_bells(first: &Outs, second: &Outs, bells: usize) -> bool {
+    match (bells_of(first.as_slice()), bells_of(second.as_slice())) {
+        (Some(one), Some(two)) => one.saturating_add(two) == bells,
+        _ => false,
+    }
 }
 
 // A text of at most 64 bytes, the rows that it makes except blank ones at the end, and how often it rings.
@@ -148,8 +175,7 @@ const CASES: &[Case] = &[
     (b"\x1B[3Cx\x1B]Ry\x1B]P0123456z", &["   xyz"], 0),
 ];
 
-// Whether the text, fed in two parts, makes these rows, and has so many side effects: in these texts BELs
-// alone.
+// Whether the text, fed in two parts, makes these rows, rings so often, and has no other side effect.
 fn is_drawn(
     alloc: Global,
     way: Way,
@@ -160,7 +186,7 @@ fn is_drawn(
     let mut emu = start(alloc, SIZE)?;
     let first = fed(&mut emu, way, parts.0);
     let second = fed(&mut emu, way, parts.1);
-    Ok(has_rows(emu.grid(), rows) && first.saturating_add(second) == bells)
+    Ok(has_rows(emu.grid(), SIZE, rows) && are_bells(&first, &second, bells))
 }
 
 fn check_cuts(by: &impl Abort, alloc: Global, case: &Case) {
@@ -225,7 +251,7 @@ fn has_tables(emu: &Emu) -> bool {
 fn shows_last_table(alloc: Global) -> Result<bool, NoMemory> {
     let mut emu = start(alloc, SIZE)?;
     draw_by_tables(&mut emu);
-    Ok(has_row(emu.grid(), 0, "\u{2604}\u{2604}") && has_tables(&emu))
+    Ok(has_row(emu.grid(), SIZE, 0, "\u{2604}\u{2604}") && has_tables(&emu))
 }
 
 #[test]

@@ -1,6 +1,7 @@
 //! Keymap texts and their faults.
 use super::checks::check_made;
-use key_text::{Includes, KeyError, parse};
+use key_syms::Action;
+use key_text::{Includes, KeyError, Line, LineKind, TableSet, parse};
 use std::alloc::Global;
 use vt_base::NoMemory;
 
@@ -160,9 +161,114 @@ const LINES: &[u8] = b"! comment \xFF \"\nKeymaps 0-2,4 # \\\n\"\nkeycode 0x1E =
         compose '`' 'a' to '\xC3\xA0'\n include \"more\"\nstrings As usual\n\
         compose as usual for \"latin1\"";
 
-fn has_lines(alloc: Global, includes: &Includes, count: usize) -> Result<bool, NoMemory> {
+// What a line of a keymap text is wanted to be: its tables; its code with the kind and the value of each
+// symbol; its table, code and symbol; its function key and string; its accent, base and result.
+#[derive(Clone, Copy)]
+enum Wanted {
+    Keymaps(&'static [u8]),
+    Keys(u8, &'static [(u8, u16)]),
+    One(u8, u8, (u8, u16)),
+    Text(u8, &'static [u8]),
+    Compose(u16, u16, u16),
+    AltIsMeta,
+    UsualStrings,
+    UsualPairs,
+}
+
+// The lines of `LINES` by keymaps(5), each with the line and the column of its first word; that of the
+// included text has the place of its include line.
+const WANTED: &[(Wanted, u32, u32)] = &[
+    (Wanted::Keymaps(&[0, 1, 2, 4]), 2, 1),
+    (Wanted::Keys(30, &[(1, 0x61), (2, 0x62), (1, 0x41)]), 4, 1),
+    (Wanted::One(5, 24, (1, 9)), 6, 1),
+    (Wanted::Text(0, b"\x1B[A\n\\\"#!"), 7, 1),
+    (Wanted::Compose(0x60, 0x61, 0xE0), 8, 1),
+    (Wanted::AltIsMeta, 9, 2),
+    (Wanted::UsualStrings, 10, 1),
+    (Wanted::UsualPairs, 11, 1),
+];
+
+// Whether a set has these tables alone.
+fn has_tables(set: &TableSet, tables: &[u8]) -> bool {
+    for t in 0..=255 {
+        if set.has(t) != tables.contains(&t) {
+            return false;
+        }
+    }
+    true
+}
+
+fn is_action(action: Action, wanted: (u8, u16)) -> bool {
+    (action.kind, action.value) == wanted
+}
+
+// Whether these are the symbols, as many as are wanted.
+fn has_symbols(syms: &[Action], wanted: &[(u8, u16)]) -> bool {
+    for (i, action) in syms.iter().enumerate() {
+        match wanted.get(i) {
+            Some(symbol) => {
+                if !is_action(*action, *symbol) {
+                    return false;
+                }
+            }
+            None => return false,
+        }
+    }
+    syms.len() == wanted.len()
+}
+
+fn is_kind(kind: &LineKind, wanted: Wanted) -> bool {
+    match (kind, wanted) {
+        (LineKind::Keymaps(set), Wanted::Keymaps(tables)) => has_tables(set, tables),
+        (LineKind::Keys { code, syms }, Wanted::Keys(n, symbols)) => {
+            *code == n && has_symbols(syms.as_slice(), symbols)
+        }
+        (
+            LineKind::One {
+                table,
+                code,
+                action,
+            },
+            Wanted::One(t, n, symbol),
+        ) => *table == t && *code == n && is_action(*action, symbol),
+        (LineKind::Text { func, text }, Wanted::Text(n, bytes)) => {
+            *func == n && text.as_slice() == bytes
+        }
+        (LineKind::Compose(pair), Wanted::Compose(accent, base, result)) => {
+            (pair.accent, pair.base, pair.result) == (accent, base, result)
+        }
+        (LineKind::AltIsMeta, Wanted::AltIsMeta) => true,
+        (LineKind::UsualStrings, Wanted::UsualStrings) => true,
+        (LineKind::UsualPairs, Wanted::UsualPairs) => true,
+        _ => false,
+    }
+}
+
+fn is_line(line: &Line, wanted: (Wanted, u32, u32)) -> bool {
+    let (kind, row, column) = wanted;
+    is_kind(&line.kind, kind) && (line.line, line.column) == (row, column)
+}
+
+// Whether the line at this place is the wanted one; false after the last of either.
+fn has_line(lines: &[Line], i: usize) -> bool {
+    match (lines.get(i), WANTED.get(i)) {
+        (Some(line), Some(wanted)) => is_line(line, *wanted),
+        _ => false,
+    }
+}
+
+fn are_wanted(lines: &[Line]) -> bool {
+    for i in 0..WANTED.len() {
+        if !has_line(lines, i) {
+            return false;
+        }
+    }
+    lines.len() == WANTED.len()
+}
+
+fn has_lines(alloc: Global, includes: &Includes) -> Result<bool, NoMemory> {
     match parse(alloc, LINES, includes) {
-        Ok(lines) => Ok(lines.len() == count),
+        Ok(lines) => Ok(are_wanted(lines.as_slice())),
         Err(KeyError::Fault(_)) => Ok(false),
         Err(KeyError::NoMemory) => Err(NoMemory),
     }
@@ -171,5 +277,5 @@ fn has_lines(alloc: Global, includes: &Includes, count: usize) -> Result<bool, N
 #[test]
 fn lines_are_read(rt: HostRuntime) {
     let includes = included(rt.alloc(), MORE);
-    check_made(&rt, has_lines(rt.alloc(), &includes, 8), "eight lines");
+    check_made(&rt, has_lines(rt.alloc(), &includes), LINES);
 }

@@ -106,7 +106,7 @@ fn is_changed(alloc: Global, case: &Case) -> Result<bool, NoMemory> {
     let (text, rows) = *case;
     let mut emu = written(alloc, SIZE, FULL)?;
     emu.write(text);
-    Ok(has_rows(emu.grid(), &rows))
+    Ok(has_rows(emu.grid(), SIZE, &rows))
 }
 
 #[test]
@@ -119,7 +119,7 @@ fn cells_change(rt: HostRuntime) {
 fn is_coloured(alloc: Global, case: &Coloured) -> Result<bool, NoMemory> {
     let (text, first, last) = *case;
     let emu = written(alloc, SIZE, text)?;
-    Ok(has_attributes(emu.grid(), first, last))
+    Ok(has_attributes(emu.grid(), SIZE, first, last))
 }
 
 #[test]

@@ -4,7 +4,7 @@ use super::{SIZE, Way, cell_at, fed, has_cursor, start};
 use std::alloc::Global;
 use vt_base::NoMemory;
 use vt_grid::Grid;
-use vt_screen::Emu;
+use vt_screen::{Emu, Out, Outs};
 
 // Each of at most 64 bytes.
 const TEXTS: &[&[u8]] = &[
@@ -26,6 +26,8 @@ const TEXTS: &[&[u8]] = &[
     b"ab\x1B[;Hx",
     b"\x1B[2;2r\x1B[1;2r\x1B[2;3r\x1B[;r\x1B[0;2rx",
     b"\x1B[12;1]\x1B[1;4]\x1B[2;3]\x1B[15]x",
+    // reports, lights and BELs between them
+    b"\x1B[2;3H\x1B[6nx\x1B[5n\x1B[3q\x07y\x1B[12;5]\x1B[c\x1B[6n",
     // three numbers and more
     b"\x1B[2;3;4Hx",
     b"\x1B[;;Hx\x1B[2;;Hy\x1B[;2;Hz",
@@ -62,10 +64,13 @@ const TEXTS: &[&[u8]] = &[
     b"abcdef\x1B[1;2H\x1B[P\x1B[2P\x1B[@\x1B[3@\x1B[X\x1B[2Xx",
 ];
 
-// Whether the cells are the same.
+// Whether both have the size of these tests, and the same cells.
 fn are_alike(grid: &Grid, other: &Grid) -> bool {
-    for y in 0..3 {
-        for x in 0..10 {
+    if grid.size() != SIZE || other.size() != SIZE {
+        return false;
+    }
+    for y in 0..SIZE.rows {
+        for x in 0..SIZE.cols {
             if cell_at(grid, y, x) != cell_at(other, y, x) {
                 return false;
             }
@@ -84,15 +89,49 @@ fn shows_alike(emu: &Emu, other: &Emu) -> bool {
         && region.bottom == state.bottom
 }
 
-// Whether the two parts draw the plain screen, and have so many side effects.
-fn draws_alike(emu: &mut Emu, plain: &Emu, said: usize, parts: (&[u8], &[u8])) -> bool {
+// Whether two side effects are the same.
+fn is_same(out: &Out, other: &Out) -> bool {
+    match (out, other) {
+        (Out::Report(text), Out::Report(bytes)) => text.as_slice() == bytes.as_slice(),
+        (Out::SwitchTo(n), Out::SwitchTo(m)) => n == m,
+        (Out::SwitchLast, Out::SwitchLast) => true,
+        (Out::Lights(n), Out::Lights(m)) => n == m,
+        (Out::Bell, Out::Bell) => true,
+        _ => false,
+    }
+}
+
+// Whether these side effects are the others from one of them on, as many as there are.
+fn stand_at(outs: &[Out], at: usize, others: &[Out]) -> bool {
+    for (i, out) in outs.iter().enumerate() {
+        match others.get(at.saturating_add(i)) {
+            Some(other) => {
+                if !is_same(out, other) {
+                    return false;
+                }
+            }
+            None => return false,
+        }
+    }
+    true
+}
+
+// Whether the side effects of both parts, one after the other, are those of the whole.
+fn are_said(first: &[Out], second: &[Out], said: &[Out]) -> bool {
+    first.len().saturating_add(second.len()) == said.len()
+        && stand_at(first, 0, said)
+        && stand_at(second, first.len(), said)
+}
+
+// Whether the two parts draw the plain screen, and have these side effects.
+fn draws_alike(emu: &mut Emu, plain: &Emu, said: &Outs, parts: (&[u8], &[u8])) -> bool {
     let first = fed(emu, Way::Quickly, parts.0);
     let second = fed(emu, Way::Quickly, parts.1);
-    shows_alike(emu, plain) && first.saturating_add(second) == said
+    shows_alike(emu, plain) && are_said(first.as_slice(), second.as_slice(), said.as_slice())
 }
 
 // The same on a screen of its own. If memory ran out, it isn't so.
-fn is_alike(alloc: Global, plain: &Emu, said: usize, parts: (&[u8], &[u8])) -> bool {
+fn is_alike(alloc: Global, plain: &Emu, said: &Outs, parts: (&[u8], &[u8])) -> bool {
     match start(alloc, SIZE) {
         Ok(emu) => {
             let mut emu = emu;
@@ -106,7 +145,7 @@ fn is_alike(alloc: Global, plain: &Emu, said: usize, parts: (&[u8], &[u8])) -> b
 fn are_alike_cut(alloc: Global, plain: &mut Emu, text: &[u8]) -> bool {
     let said = fed(plain, Way::Plainly, text);
     for cut in 0..text.len() {
-        if !is_alike(alloc, plain, said, text.split_at(cut)) {
+        if !is_alike(alloc, plain, &said, text.split_at(cut)) {
             return false;
         }
     }

@@ -18,17 +18,17 @@ fn write_bytewise(emu: &mut Emu, text: &[u8]) {
     }
 }
 
-// The rows and columns of a screen, a text, and the rows that it makes.
-type Worked = (u8, u8, &'static [u8], [&'static str; 3]);
+// The rows and columns of a screen, a text, and the rows that it makes except blank ones at the end.
+type Worked = (u8, u8, &'static [u8], &'static [&'static str]);
 
 const WORKED: &[Worked] = &[
-    (2, 5, b"\x1B[2;2HX", ["", " X", ""]),
-    (1, 6, b"ab\x1B[\x083CX", ["ab  X", "", ""]),
-    (3, 2, b"\x1B[2;3ra\r\nb\r\nc\r\nd", ["a", "c", "d"]),
-    (3, 2, b"ab\x1B[1;1H\x1B[@", [" a", "", ""]),
-    (1, 1, b"ab\x1B[@\x1B[2K\x1B[Jc\n\x1BM", ["", "", ""]),
-    (1, 1, b"\x1B[1;1r\x1B[?6habc", ["c", "", ""]),
-    (2, 1, b"\x1B[4ha\x1B[Pbc", ["b", "c", ""]),
+    (2, 5, b"\x1B[2;2HX", &["", " X"]),
+    (1, 6, b"ab\x1B[\x083CX", &["ab  X"]),
+    (3, 2, b"\x1B[2;3ra\r\nb\r\nc\r\nd", &["a", "c", "d"]),
+    (3, 2, b"ab\x1B[1;1H\x1B[@", &[" a"]),
+    (1, 1, b"ab\x1B[@\x1B[2K\x1B[Jc\n\x1BM", &[""]),
+    (1, 1, b"\x1B[1;1r\x1B[?6habc", &["c"]),
+    (2, 1, b"\x1B[4ha\x1B[Pbc", &["b", "c"]),
 ];
 
 // Whether the text makes these rows, read byte by byte.
@@ -36,7 +36,7 @@ fn is_worked(alloc: Global, case: &Worked) -> Result<bool, NoMemory> {
     let (rows, cols, text, expected) = *case;
     let mut emu = start(alloc, size(rows, cols))?;
     write_bytewise(&mut emu, text);
-    Ok(has_rows(emu.grid(), &expected))
+    Ok(has_rows(emu.grid(), size(rows, cols), expected))
 }
 
 #[test]
@@ -50,7 +50,7 @@ fn goes_over(alloc: Global) -> Result<bool, NoMemory> {
     let mut emu = written(alloc, size(2, 5), b"\x1B")?;
     emu.write(b"[");
     emu.write(b"2;2HX");
-    Ok(has_row(emu.grid(), 1, " X"))
+    Ok(has_row(emu.grid(), size(2, 5), 1, " X"))
 }
 
 #[test]
@@ -58,18 +58,18 @@ fn a_sequence_goes_over_three_writes(rt: HostRuntime) {
     check_made(&rt, goes_over(rt.alloc()), "the second row");
 }
 
-// A text on a screen of two rows and five columns, another size, and then the rows, and the cursor's
-// column and row.
-type Resized = (&'static [u8], u8, u8, [&'static str; 3], u8, u8);
+// A text on a screen of two rows and five columns, another size, and then the rows except blank ones at the
+// end, and the cursor's column and row.
+type Resized = (&'static [u8], u8, u8, &'static [&'static str], u8, u8);
 
 const RESIZED: &[Resized] = &[
-    (b"abcdefghij", 1, 3, ["fgh", "", ""], 2, 0),
-    (b"abcdefghij", 3, 7, ["abcde", "fghij", ""], 4, 1),
-    (b"abcdefghij\x1B[1;2H", 1, 3, ["abc", "", ""], 1, 0),
-    (b"abcdefghij", 2, 5, ["abcde", "fghij", ""], 4, 1),
-    (b"\x1B[1;1Ha\x1B[1", 2, 9, ["a", "", ""], 1, 0),
-    (b"abcdefghij\x1B[1;1H", 1, 9, ["abcde", "", ""], 0, 0),
-    (b"\x1B[2;2H", 1, 1, ["", "", ""], 0, 0),
+    (b"abcdefghij", 1, 3, &["fgh"], 2, 0),
+    (b"abcdefghij", 3, 7, &["abcde", "fghij"], 4, 1),
+    (b"abcdefghij\x1B[1;2H", 1, 3, &["abc"], 1, 0),
+    (b"abcdefghij", 2, 5, &["abcde", "fghij"], 4, 1),
+    (b"\x1B[1;1Ha\x1B[1", 2, 9, &["a"], 1, 0),
+    (b"abcdefghij\x1B[1;1H", 1, 9, &["abcde"], 0, 0),
+    (b"\x1B[2;2H", 1, 1, &[""], 0, 0),
 ];
 
 // The screen of two rows and five columns after a text, at another size.
@@ -89,7 +89,7 @@ fn is_resized(alloc: Global, case: &Resized) -> Result<bool, NoMemory> {
     let (text, rows, cols, expected, x, y) = *case;
     let emu = resized(alloc, text, rows, cols)?;
     Ok(
-        has_rows(emu.grid(), &expected)
+        has_rows(emu.grid(), size(rows, cols), expected)
             && has_cursor(&emu, x, y, false)
             && has_whole_region(&emu, rows),
     )
@@ -107,7 +107,7 @@ fn goes_on(alloc: Global) -> Result<bool, NoMemory> {
     let mut emu = resized(alloc, b"\x1B[44m\x1B[2;2r\x1B[1;1H\x1B[3", 2, 9)?;
     emu.write(b"Cx");
     let grid = emu.grid();
-    Ok(emu.state().x == 4 && grid.size() == size(2, 9) && has_attributes(grid, 0x07, 0x17))
+    Ok(emu.state().x == 4 && has_attributes(grid, size(2, 9), 0x07, 0x17))
 }
 
 #[test]
