@@ -308,7 +308,7 @@ def main():
     passed = failed = 0
     for kind, results in kinds.items():
         if results is None:
-            print(f"{kind}: left out, since there is no {'kernel' if 'kernel' in kind else 'C compiler'}")
+            print(f"skipped: {kind}: there is no {'kernel' if 'kernel' in kind else 'C compiler'}")
             continue
         results = list(results)
         bad = [why for why in results if why]

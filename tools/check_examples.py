@@ -5,15 +5,19 @@ usage: tools/check_examples.py
 
 Each example has its input, the words, and the file that has to come of it. The dump of a session's keymap, read again,
 has the same tables. The sessions are raced too: each race ends with status 0 within a minute, and its journal is a legal
-one of the session, as the stored one is. Prints a line for each fault, and ends with status 1 if there is one.
+one of the session, as the stored one is. Prints a line for each fault, and ends with status 1 if there is one, and with
+2 if there is no program.
 """
 import pathlib
 import re
 import subprocess
 import sys
 
+sys.dont_write_bytecode = True
+
+from programs import find_for_check  # noqa: E402: after the line that keeps tools/ clean
+
 TOP = pathlib.Path(__file__).resolve().parent.parent
-PROGRAM = TOP / "crates/vt/out/vt"
 FOLDER = TOP / "examples"
 SECONDS = 60
 RECORDINGS = ("listing", "pager", "editor", "monitor", "dialog", "progress")
@@ -35,9 +39,9 @@ class Fault(Exception):
 def printed(words, given):
     """What the program prints; it has to end by itself, with status 0."""
     try:
-        ran = subprocess.run([PROGRAM, *words], input=given, capture_output=True, timeout=SECONDS, check=False)
+        ran = subprocess.run([find_for_check("vt"), *words], input=given, capture_output=True, timeout=SECONDS, check=False)
     except OSError as fault:
-        raise Fault(f"{PROGRAM}: {fault.strerror}") from None
+        raise Fault(f"vt: {fault.strerror}") from None
     except subprocess.TimeoutExpired:
         raise Fault(f"vt {' '.join(words)} doesn't end in {SECONDS} seconds") from None
     if ran.returncode != 0:

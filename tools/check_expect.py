@@ -353,7 +353,7 @@ def main():
         if given.only not in (None, kind):
             continue
         if results is None:
-            print(f"{kind}: left out, since it isn't installed here")
+            print(f"skipped: {kind}: it isn't installed here")
             continue
         results = list(results)
         bad = [why for why in results if why]

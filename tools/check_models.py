@@ -163,7 +163,7 @@ def check(is_long):
     whole = compare()
     for tool in ("spin", "gcc"):
         if not shutil.which(tool):
-            print(f"models/: skipped, since {tool} isn't installed")
+            print(f"skipped: the models: {tool} isn't installed")
             return whole
     rows = 0
     for name, definitions, wanted, is_short in ROWS:

@@ -373,7 +373,7 @@ def check_images(check, program, browser):
     """The images of all programs that are there."""
     font = run(["fc-match", "-f", "%{family[0]}", "monospace"])[1].decode() if shutil.which("fc-match") else "none known"
     if font not in FONTS:
-        print(f"skipped: the frames of a picture, since the font of monospace is {font}")
+        print(f"skipped: the frames of a picture: the font of monospace is {font}")
     drawers = [
         ("Chromium", browser or next(filter(None, map(shutil.which, BROWSERS)), None), by_browser),
         ("rsvg-convert", shutil.which("rsvg-convert"), by_converter),
@@ -382,7 +382,7 @@ def check_images(check, program, browser):
         if drawer:
             check_drawn(check, program, drawer, drawn, font in FONTS)
         else:
-            print(f"skipped: the pixels of a picture, since {name} isn't installed")
+            print(f"skipped: the pixels of a picture: {name} isn't installed")
 
 
 def main():

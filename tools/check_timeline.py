@@ -387,7 +387,7 @@ def main():
             print(f"{len(entries)} entries are there after {there:.2f} s, {work:.2f} s of a processor")
             browser.close()
         else:
-            print("skipped: the pages in a browser, since Chromium isn't installed")
+            print("skipped: the pages in a browser: Chromium isn't installed")
     print(f"{check.passed} passed, {check.failed} failed")
     return 1 if check.failed else 0
 

@@ -241,6 +241,8 @@ def verdict_of(said, name, path):
     told = [it for it in errors if not BY_NAME.search(re.sub(r"`[^`]*`", "", it))]
     if told:
         return REFUSED, f"{path}: {told[0]}"
+    if "expected a measure" in state:
+        return REFUSED, f"{path}: nothing shows that its loops end"
     if errors:
         return STALE, errors[0]
     return NO_VERDICT, f"{path}: {state}"

@@ -4,11 +4,14 @@
 usage: tools/gate_checks.py [--quick] [--strict] [--jobs N] [NAME ..]
 
 The wrong bodies come first, since they use all processors; then the other checks run side by side, N at once (default:
-as many as there are processors), those that take longest first. With NAMEs only these run. A check fails if its status
-isn't 0, and then its output is printed. A line `skipped: WHAT: WHY` of a check names a part that needs what isn't
-installed here. The last lines have the slowest checks with their seconds, the parts that were skipped, and 'N passed,
-M failed', with ', K skipped' if parts were. `--quick` leaves out the wrong bodies and the C library, for work in between
-landings. With `--strict` a skipped part counts as failed. Status 1: a check failed; 2: a word isn't known.
+as many as there are processors), those that take longest first. With NAMEs only these run. Only proved programs count
+(VT_PROVED=1). A check fails if its status isn't 0, and then its output is printed. A line `skipped: WHAT: WHY` of a check
+names a part that needs what isn't installed here.
+
+The last lines have the slowest checks with their seconds, the minutes of the whole run (with `rt ci`, if .ci/run has
+called this tool), the parts that were skipped, and 'N passed, M failed', with ', K skipped' if parts were. `--quick`
+leaves out the wrong bodies and the C library, for work in between landings. With `--strict` a skipped part counts as
+failed. Status 1: a check failed; 2: a word isn't known.
 """
 import argparse
 import concurrent.futures
@@ -27,7 +30,13 @@ WRONG_BODIES = [
     ("check_wrong_bodies --self-test", ["tools/check_wrong_bodies.py", "--self-test"]),
     ("check_wrong_bodies", ["tools/check_wrong_bodies.py"]),
 ]
-C_LIBRARY = [("check_c", ["tools/check_c.py", "--gate"])]
+C_LIBRARY = [
+    ("check_c", ["tools/check_c.py", "--gate"]),
+]
+# What needs the C library that check_c has built.
+BEHIND = [
+    ("check_install", ["tools/check_install.py"]),
+]
 CHECKS = [
     ("check_hostile", ["tools/check_hostile.py"]),
     ("make_conformance --check", ["tools/make_conformance.py", "--check"]),
@@ -37,6 +46,9 @@ CHECKS = [
     ("check_expect", ["tools/check_expect.py"]),
     ("check_models", ["tools/check_models.py"]),
     ("engines vt", ["tools/engines.py", "vt", "--cut", "--first"]),
+    ("check_build", ["tools/check_build.py", "--build"]),
+    ("check_engines", ["tools/check_engines.py"]),
+    ("check_why", ["tools/check_why.py"]),
     ("check_redraw", ["tools/check_redraw.py", "200"]),
     ("check_streams", ["tools/check_streams.py"]),
     ("check_drill", ["tools/check_drill.py"]),
@@ -63,8 +75,8 @@ def run(command, is_shown=False):
     said, start, status = [], time.monotonic(), None
     try:
         with subprocess.Popen(
-            command, cwd=TOP, stdin=subprocess.DEVNULL, stdout=subprocess.PIPE, stderr=subprocess.STDOUT,
-            encoding="utf-8", errors="replace",
+            command, cwd=TOP, env={**os.environ, "VT_PROVED": os.environ.get("VT_TRY","1")}, stdin=subprocess.DEVNULL, stdout=subprocess.PIPE,
+            stderr=subprocess.STDOUT, encoding="utf-8", errors="replace",
         ) as running:  # fmt: skip
             end = threading.Timer(LIMIT, running.kill)
             end.start()
@@ -103,6 +115,7 @@ class Report:
         """Prints the last lines, and gives the status."""
         slowest = sorted(self.seconds, key=self.seconds.get, reverse=True)[:SLOWEST]
         print("slowest: " + ", ".join(f"{name} {self.seconds[name]:.0f} s" for name in slowest))
+        print("minutes: {:.0f} by the clock, {:.0f} of one processor".format(*minutes()))
         for it in self.skipped:
             print(f"skipped: {it}")
         for it in self.failed:
@@ -112,6 +125,16 @@ class Report:
         return 1 if self.failed or is_strict and self.skipped else 0
 
 
+def minutes():
+    """The minutes since this process began, and those of one processor that it and its children took: also what .ci/run
+    did in this process before it became this tool."""
+    fields = pathlib.Path("/proc/self/stat").read_text(encoding="ascii").rpartition(")")[2].split()
+    up = float(pathlib.Path("/proc/uptime").read_text(encoding="ascii").split()[0])
+    used = os.times()
+    began = int(fields[19]) / os.sysconf("SC_CLK_TCK")
+    return (up - began) / 60, sum(used[:4]) / 60
+
+
 def main():
     parser = argparse.ArgumentParser(usage=__doc__.split("usage: ")[1].split("\n\n")[0])
     parser.add_argument("--quick", action="store_true")
@@ -119,8 +142,10 @@ def main():
     parser.add_argument("--jobs", type=int, default=len(os.sched_getaffinity(0)))
     parser.add_argument("names", nargs="*")
     options = parser.parse_args()
-    first, beside = ([], CHECKS) if options.quick else (WRONG_BODIES, C_LIBRARY + CHECKS)
-    known = [name for name, _ in WRONG_BODIES + C_LIBRARY + CHECKS]
+    first, beside, behind = WRONG_BODIES, C_LIBRARY + CHECKS, BEHIND
+    known = [name for name, _ in first + beside + behind]
+    if options.quick:
+        first, beside = [], CHECKS
     for name in options.names:
         if name not in known:
             print(f"gate_checks.py: no check {name}; the checks are {', '.join(known)}", file=sys.stderr)
@@ -129,10 +154,12 @@ def main():
     report = Report()
     for name, command in filter(is_wanted, first):
         report.take(name, *run(command, is_shown=True), is_shown=True)
-    with concurrent.futures.ThreadPoolExecutor(options.jobs) as pool:
+    with concurrent.futures.ThreadPoolExecutor(max(options.jobs, 1)) as pool:
         running = {pool.submit(run, command): name for name, command in filter(is_wanted, beside)}
         for done in concurrent.futures.as_completed(running):
             report.take(running[done], *done.result())
+    for name, command in filter(is_wanted, behind):
+        report.take(name, *run(command))
     return report.end(options.strict)
 
 

@@ -126,7 +126,7 @@ def run_group(checks):
     for check in checks:
         why = is_left_out(check)
         if why:
-            print(f"{check}: left out, since {why}", flush=True)
+            print(f"skipped: {check}: {why}", flush=True)
         else:
             results.append(run_check(check))
     return results.count(True), results.count(False)
