@@ -1,10 +1,11 @@
 -- A text that is run piece by piece, and the places of its side effects.
 use Rattle.screen_c.specs.Shown.{c_out}
 use Rattle.screen_c.specs.declared.vt_out.VtOut.{VtOut}
-use Rattle.std.proofs.Common.{◌≡◌, ℕ, ◌+◌, ◌-◌, ◌<◌, List, ◌∷◌, ◌++◌, Option, Some, add-one, set, length, map, take, drop, sym, ap, ◌∙◌, arith, length-drop, append_assoc}
+use Rattle.std.proofs.Common.{◌≡◌, ℕ, ◌+◌, ◌-◌, ◌<◌, List, ◌∷◌, ◌++◌, Option, Some, add-one, set, length, map, take, drop, sym, ap, ◌∙◌, arith, length-drop, append-nil, append_assoc, ⊎_elim}
 use Rattle.std.proofs.Math.Seq.{take-add, take-append_seam, drop-append-add, set_split}
+use Rattle.std.proofs.lemmas.Bool.{cases_lt}
 use Rattle.std.proofs.lemmas.List.{drop-drop, length-append, length-map, map-append, take_all}
-use Rattle.vt_screen.specs.Run.{AnyCut, after, outs_of_option, outs_of_run}
+use Rattle.vt_screen.specs.Run.{AnyCut, IsQuietBefore, after, outs_of_option, outs_of_run}
 use Rattle.vt_screen.specs.Screen.{Screen}
 use Rattle.vt_screen.specs.declared.out.Out.{Out}
 use Rattle.vt_units.specs.Run.{Reached}
@@ -59,6 +60,25 @@ pub count_more : (said more all : List Out) (n k : ℕ) → n ≡ length said �
     → n + k ≡ length all
 count_more said more all n k count added whole =
     omega (arith, count, added, length-append said more, ap length whole)
+
+-- a place was left before each of the first bytes, and so before each of n more
+pub room_more : AnyCut → (start before : Reached Screen) (at n places : ℕ) (text : List ℕ)
+    → before ≡ after start (take at text) → length (outs_of_run start (take at text)) < places
+    → ((k : ℕ) → k < at → length (outs_of_run start (take k text)) < places)
+    → IsQuietBefore n before (take (length text - at) (drop at text))
+    → (k : ℕ) → k < at + n → length (outs_of_run start (take k text)) < places
+room_more cut start before at n places text done room first quiet k less = ⊎_elim
+    (λ (early : k < at). first k early)
+    (λ late.
+    let j : ℕ = k - at in
+    let place : at + j ≡ k = omega (arith, late) in
+    let same : outs_of_run start (take at text) ≡ outs_of_run start (take k text) =
+    sym (append-nil (outs_of_run start (take at text)))
+    ∙ ap (λ (more : List Out). outs_of_run start (take at text) ++ more) (sym (quiet j (omega (arith, late, less))))
+    ∙ outs_more cut start before at j text done
+    ∙ ap (λ (i : ℕ). outs_of_run start (take i text)) place in
+    omega (arith, room, ap length same))
+    (cases_lt k at)
 
 -- a side effect at place n
 pub one_put : (o : Option Out) (out : Out) (x : VtOut) (places : List VtOut) (n : ℕ) → o ≡ Some out → x ≡ c_out out

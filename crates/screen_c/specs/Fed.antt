@@ -8,7 +8,7 @@ use Rattle.vt_screen.specs.Screen.{Screen}
 use Rattle.vt_units.specs.Run.{Reached}
 
 -- the first `taken` bytes were run, their outs stand in the first places in order, and the other places stay unchanged.
--- Bytes are left only if all places are full
+-- Bytes are left only if all places are full. Before the last byte that was run a place was left
 pub record IsFed (m : Reached Screen) (bytes : List ℕ) (old new : List VtOut) (fed : VtFed) (end : Reached Screen)
     : Type 0 where
   pub within : fed.taken ≤ length bytes
@@ -16,3 +16,4 @@ pub record IsFed (m : Reached Screen) (bytes : List ℕ) (old new : List VtOut) 
   pub outs : new ≡ map c_out (outs_of_run m (take fed.taken bytes)) ++ drop fed.said old
   pub count : fed.said ≡ length (outs_of_run m (take fed.taken bytes))
   pub all : fed.said < length old → fed.taken ≡ length bytes
+  pub first : (k : ℕ) → k < fed.taken → length (outs_of_run m (take k bytes)) < length old

@@ -1,16 +1,11 @@
 -- The attribute byte of a VGA text cell: blink is bit 7, the background bits 4 to 6, bright bit 3 and the
 -- character's colour bits 0 to 2. How attributes become that byte is this project's own.
-use Rattle.std.specs.Prelude.{ℕ, ◌+◌, ◌-◌, ◌*◌, ◌/◌, ◌%◌, ◌==◌, List, [], ◌∷◌, slice_index, if◌then◌else◌}
+use Rattle.std.specs.Prelude.{ℕ, ◌+◌, ◌-◌, ◌*◌, ◌/◌, ◌%◌, ◌==◌, if◌then◌else◌}
 use Rattle.vt_cells.specs.Rendition.{Rendition, Tints, is_bold, is_dim}
 
--- VGA's numbers of the console's colours in their order: VGA counts blue 1 and red 4
-abbrev pub vga_colours : List ℕ
-vga_colours =
-    0 ∷ 4 ∷ 2 ∷ 6 ∷ 1 ∷ 5 ∷ 3 ∷ 7 ∷ 8 ∷ 12 ∷ 10 ∷ 14 ∷ 9 ∷ 13 ∷ 11 ∷ 15 ∷ []
-
--- a colour's number in VGA
+-- a colour's number in VGA, of sixteen: bits 0 and 2 are exchanged, since VGA counts blue 1 and red 4
 abbrev pub vga : ℕ → ℕ
-vga c = slice_index vga_colours c
+vga c = 8 * (c / 8) + 4 * (c % 2) + 2 * (c / 2 % 2) + c / 4 % 2
 
 -- a background and a character's colour in one byte
 abbrev pub byte_of : ℕ → ℕ → ℕ

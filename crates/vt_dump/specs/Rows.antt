@@ -4,10 +4,14 @@ use Rattle.std.specs.List.{flat_map}
 use Rattle.vt_cells.specs.Width.{is_half}
 use Rattle.vt_cells.specs.declared.cell.Cell.{Cell}
 
+-- a printable character of ASCII
+abbrev pub is_printable_ascii : ℕ → Bool
+is_printable_ascii code = nat_le 0x20 code && nat_le code 0x7E
+
 -- the code is a character's, and no control character's: 20 to 7E, and A0 to 10FFFF except the surrogates
 abbrev pub is_shown : ℕ → Bool
 is_shown code =
-    (nat_le 0x20 code && nat_le code 0x7E)
+    is_printable_ascii code
     || ((nat_le 0xA0 code && nat_le code 0xD7FF) || (nat_le 0xE000 code && nat_le code 0x10FFFF))
 
 -- a cell's character in UTF-8, or a question mark; no bytes for a right half, whose character stands in the

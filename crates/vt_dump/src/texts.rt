@@ -1,7 +1,7 @@
 //! The text of a row.
 ghost use Rattle.std.specs.Prelude.{◌≡◌, ◌+◌, ◌*◌, ◌<◌, ◌≤◌, ◌∷◌, ◌++◌, [], true};
 ghost use Rattle.vt_base.specs.Bytes.{Grew};
-ghost use Rattle.vt_dump.specs.Rows.{cell_text, is_shown, row_text};
+ghost use Rattle.vt_dump.specs.Rows.{cell_text, is_printable_ascii, is_shown, row_text};
 ghost use Rattle.vt_grid.specs.Grid.{row_at};
 
 use vt_base::Bytes;
@@ -47,6 +47,7 @@ pub(crate) fn add_row_text(g: &Grid, y: u8, text: &mut Bytes)
 /// Whether the cell has a printable character of ASCII: its text is that one byte.
 #[tactic(auto, using(crate::proofs::Printables::printable_text))]
 pub fn is_own_byte(cell: Cell) -> bool
+    ensures ascii { result ≡ is_printable_ascii cell.code }
     ensures text { result ≡ true → cell_text cell ≡ cell.code ∷ [] }
     ensures byte { result ≡ true → cell.code < 256 }
 {

@@ -1,6 +1,7 @@
 mod Alike
 mod Digits
 mod Does
+mod DrawableRows
 mod Glyphs
 mod Joins
 mod Keeps
@@ -9,9 +10,13 @@ mod Numbers
 mod Overlays
 mod Paints
 mod Palettes
+mod Parts
 mod Pendings
 mod Pens
+mod PlainPens
+mod PlainTable
 mod Prints
+mod Reached
 mod Redrawing
 mod Rows
 mod Sheets

@@ -1,7 +1,10 @@
 pub mod Behind
 pub mod Cells
 pub mod Drawable
+pub mod DrawableRows
+pub mod Parts
 pub mod Pending
+pub mod Reached
 pub mod Redraw
 pub mod Sequences
 pub mod State

@@ -1,5 +1,8 @@
 //! Laws of redrawing, for every screen.
 ghost use Rattle.vt_redraw.specs.Behind.{TextsFollow};
+ghost use Rattle.vt_redraw.specs.DrawableRows.{RowsAreCharacters};
+ghost use Rattle.vt_redraw.specs.Parts.{RedrawsUseRows};
+ghost use Rattle.vt_redraw.specs.Reached.{StatesAreDrawable};
 ghost use Rattle.vt_redraw.specs.Redraw.{ChangesRedraw, ScreensRedraw};
 
 use vt_cells::columns_are_few;
@@ -23,4 +26,22 @@ pub fn screens_redraw()
 /// the one that was drawn again.
 pub fn texts_follow()
     ensures { TextsFollow }
+{}
+
+/// A text can make the state of every screen that bytes alone make from a start. So only the cells of such a screen can
+/// keep it from being redrawable.
+pub fn states_are_drawable()
+    ensures { StatesAreDrawable }
+{}
+
+/// A row is drawable exactly if it is the cells of characters that print themselves, each one of two columns with its
+/// right half.
+pub fn rows_are_characters()
+    ensures { RowsAreCharacters }
+{}
+
+/// The text of a redraw consists of characters of the screen, which print themselves, and of rows of the effect table,
+/// with numbers for which they have an effect.
+pub fn redraws_use_rows()
+    ensures { RedrawsUseRows }
 {}

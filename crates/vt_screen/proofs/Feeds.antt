@@ -3,6 +3,7 @@ use Rattle.std.proofs.Common.{◌≡◌, ℕ, ◌+◌, ◌<◌, ◌-◌, List, [
 use Rattle.std.proofs.Math.Seq.{take-add}
 use Rattle.std.proofs.lemmas.List.{take_rest}
 use Rattle.vt_screen.proofs.Cuts.{make_reached-behind, run-from}
+use Rattle.vt_screen.proofs.Quiet.{quiet_one}
 use Rattle.vt_screen.specs.Run.{HasRun, ScreenAndOuts, after, outs_of_option, outs_of_run, run_from, screen_effects, with_outs}
 use Rattle.vt_screen.specs.Screen.{Screen}
 use Rattle.vt_screen.specs.declared.out.Out.{Out}
@@ -50,4 +51,5 @@ pub byte_run : (text : List ℕ) (at : ℕ) (old new : Reached Screen) (said : O
 byte_run text at old new said within ran = (
   omega (arith, within, ap (λ (bytes : List ℕ). length bytes) (take_rest text at), length-drop at text),
   ap (run_from old) (ap (take 1) (take_rest text at ∙ drop-cons text at 0 within)) ∙ ran,
+  quiet_one old (left_of text at),
 )

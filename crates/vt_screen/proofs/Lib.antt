@@ -9,13 +9,14 @@ mod Feeds
 mod FollowWide
 mod Fours
 mod Halved
-mod InsideTable
 mod Hearing
-mod Insides
+pub mod InsideTable
+pub mod Insides
 mod Places
 mod Prefixes
 mod Printed
 mod PutBack
+mod Quiet
 mod Scrolled
 mod Sequences
 mod Shown

@@ -7,6 +7,7 @@ use Rattle.std.specs.List.{prefix_len}
 use Rattle.vt_screen.specs.Cursor.{at_column, linefeed}
 use Rattle.vt_cells.specs.Width.{columns}
 use Rattle.vt_screen.specs.Printing.{lacks_room, print, print_character, print_characters, with_character, after_wrap}
+use Rattle.vt_screen.proofs.Quiet.{quiet_run}
 use Rattle.vt_screen.specs.Run.{HasRun, ScreenAndOuts, run_from, screen_effects, with_outs}
 use Rattle.vt_screen.specs.Screen.{Screen, mode_of}
 use Rattle.vt_units.specs.Answer.{answer, rest_after}
@@ -149,9 +150,9 @@ pub short_front_runs : PrintablesAreCharacters → (text : List ℕ) (k count : 
     → count ≤ length (take k text) → new ≡ (if count == 0 then rest else fresh m)
     → drawn ≡ print_characters (take count (take k text)) s
     → HasRun old text count (make_reached drawn new) None
-short_front_runs law text k count old s drawn rest new m view mode is within left shown = (
-  omega (arith, within, length-take k text),
-  (λ i. run_from (sym view i) (take_short count k text within i))
-      ∙ front_runs law (take k text) count s rest new m mode is within left
-      ∙ ap (λ (t : Screen). with_outs [] (make_reached t new)) (sym shown),
-)
+short_front_runs law text k count old s drawn rest new m view mode is within left shown =
+    let ran : run_from old (take count text) ≡ with_outs [] (make_reached drawn new) =
+    (λ i. run_from (sym view i) (take_short count k text within i))
+    ∙ front_runs law (take k text) count s rest new m mode is within left
+    ∙ ap (λ (t : Screen). with_outs [] (make_reached t new)) (sym shown) in
+    (omega (arith, within, length-take k text), ran, quiet_run old text count (make_reached drawn new) ran)

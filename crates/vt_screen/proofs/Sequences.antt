@@ -1,7 +1,8 @@
 -- A sequence that is read at once.
-use Rattle.std.proofs.Common.{◌≡◌, ℕ, List, [], ◌∷◌, take, Option, Some, sym, ap, ◌∙◌}
+use Rattle.std.proofs.Common.{◌≡◌, ℕ, List, [], ◌∷◌, take, Option, Some, sym, subst, ap, ◌∙◌}
 use Rattle.vt_screen.specs.Effect.{effect}
-use Rattle.vt_screen.specs.Run.{HasRun, ScreenAndOuts, screen_effects, with_outs, outs_of_option, run_from}
+use Rattle.vt_screen.proofs.Quiet.{quiet_sequence}
+use Rattle.vt_screen.specs.Run.{HasRun, IsQuietBefore, ScreenAndOuts, screen_effects, with_outs, outs_of_option, run_from}
 use Rattle.vt_screen.specs.Screen.{Screen, mode_of}
 use Rattle.vt_screen.specs.declared.out.Out.{Out}
 use Rattle.vt_units.specs.WholeSequence.{Sequence, taken_ahead}
@@ -40,4 +41,6 @@ sequence_run law text old s drawn rest new m one said view mode found fresh_is i
       ap (λ (from : Reached Screen). run_from from (take one.count text)) (sym view)
           ∙ come_run screen_effects one.unit m (take one.count text) start rest (sym mode) comes.comes
           ∙ (λ i. with_outs (outs_of_option (is i).said) (make_reached (is i).screen (sym fresh_is i))),
+      subst (λ (from : Reached Screen). IsQuietBefore one.count from text) view
+          (quiet_sequence one.unit m text one.count s rest comes.within (sym mode) comes.comes),
     )

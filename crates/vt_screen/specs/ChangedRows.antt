@@ -1,10 +1,11 @@
 -- The rows that a text may change. This project's own.
-use Rattle.std.specs.Prelude.{◌≡◌, ◌⊎◌, ◌+◌, ◌<◌, ◌≤◌, nat_lt, not, ℕ, true, false, List, [], if◌then◌else◌}
+use Rattle.std.specs.Prelude.{◌≡◌, ◌⊎◌, ◌+◌, ◌<◌, ◌≤◌, ◌==◌, ◌&&◌, ◌||◌, Bool, nat_lt, not, ℕ, true, false, List, [], ◌∷◌, All, length, slice_index, take, if◌then◌else◌}
+use Rattle.std.specs.List.{list_any}
 use Rattle.vt_grid.specs.Grid.{row_at}
 use Rattle.vt_screen.specs.Run.{ScreenAndOuts, after, screen_effects}
 use Rattle.vt_screen.specs.Screen.{Screen, mode_of}
 use Rattle.vt_screen.specs.declared.place.Place.{Place}
-use Rattle.vt_units.specs.Bytes.{decodes}
+use Rattle.vt_units.specs.Bytes.{decodes, is_printable}
 use Rattle.vt_units.specs.Run.{Reached, step}
 
 -- the rows above first, and those below last, are the same in both screens
@@ -15,8 +16,36 @@ AreSameOutside first last s t = (y : ℕ) → (y < first) ⊎ (last < y) → row
 abbrev pub ChangesAtMost : ℕ → ℕ → Reached Screen → List ℕ → Type 0
 ChangesAtMost first last m bytes = AreSameOutside first last m.state (after m bytes).state
 
+-- the row of the cursor before the bytes, and after them
+abbrev pub AreCursorRows : ℕ → ℕ → Reached Screen → List ℕ → Type 0
+AreCursorRows first last m bytes = (first ≡ m.state.state.y) × (last ≡ (after m bytes).state.state.y)
+
+-- no text is pending, text is UTF-8, characters wrap, and a line feed stays in its column
+pub record ReadsPlainly (m : Reached Screen) : Type 0 where
+  pub text : m.rest.text ≡ []
+  pub decoding : decodes (mode_of m.state) ≡ true
+  pub wraps : m.state.state.autowrap ≡ true
+  pub straight : m.state.state.newline ≡ false
+
+-- a printable character of ASCII, BEL, BS, LF or CR
+abbrev pub is_plain_byte : ℕ → Bool
+is_plain_byte b = is_printable b || list_any (λ c. b == c) (0x07 ∷ 0x08 ∷ 0x0A ∷ 0x0D ∷ [])
+
+-- the byte takes the cursor to the next row: LF does, and a character while a wrap is pending
+abbrev pub goes_down : Bool → ℕ → Bool
+goes_down wrap b = b == 0x0A || (wrap && is_printable b)
+
+-- all of the bytes are such bytes, and each one that takes the cursor to the next row is read above the region's
+-- last row
+pub record StaysAbove (m : Reached Screen) (bytes : List ℕ) : Type 0 where
+  pub plainly : ReadsPlainly m
+  pub plain : All (λ b. is_plain_byte b ≡ true) bytes
+  pub above : (k : ℕ) → k < length bytes
+      → goes_down (after m (take k bytes)).state.state.wrap (slice_index bytes k) ≡ true
+      → (after m (take k bytes)).state.state.y < m.state.state.bottom
+
 -- the cursor is here, on a screen of so many columns whose region ends in this row. Text is UTF-8, characters
--- wrap, and a line feed stays in its column. No public clause names this, nor the two definitions below
+-- wrap, and a line feed stays in its column. No public clause names this, nor the three definitions below
 pub record IsAt (cols bottom : ℕ) (at : Place) (s : Screen) : Type 0 where
   pub decoding : decodes (mode_of s) ≡ true
   pub wraps : s.state.autowrap ≡ true
@@ -28,6 +57,11 @@ pub record IsAt (cols bottom : ℕ) (at : Place) (s : Screen) : Type 0 where
   pub column : s.state.x ≡ at.x
   pub row : s.state.y ≡ at.y
   pub pending : s.state.wrap ≡ at.wrap
+
+-- the place after the byte is known: it is such a byte, and if it takes the cursor to the next row, it is read above
+-- the region's last row
+abbrev pub has_next_place : ℕ → Place → ℕ → Bool
+has_next_place bottom at b = is_plain_byte b && (not (goes_down at.wrap b) || nat_lt at.y bottom)
 
 -- the place after a cell in the cursor's row
 abbrev pub after_cell : ℕ → Place → Place

@@ -1,6 +1,6 @@
 -- The run of bytes over a screen, and its laws. Bytes are cut into units (`vt_units`), and the units have
 -- their effects in order.
-use Rattle.std.specs.Prelude.{◌≡◌, ◌≤◌, ℕ, ◌++◌, List, [], ◌∷◌, Option, Some, None, length, take}
+use Rattle.std.specs.Prelude.{◌≡◌, ◌<◌, ◌≤◌, ℕ, ◌++◌, List, [], ◌∷◌, Option, Some, None, length, take}
 use Rattle.vt_screen.specs.Effect.{control, effect}
 use Rattle.vt_screen.specs.Saying.{Effect}
 use Rattle.vt_screen.specs.Screen.{Screen, mode_of, start_screen}
@@ -53,11 +53,16 @@ after m bytes =
 abbrev pub outs_of_run : Reached Screen → List ℕ → List Out
 outs_of_run m bytes = (run_from m bytes).state.outs
 
+-- the first bytes of the text, if they are fewer than so many, have no side effect
+abbrev pub IsQuietBefore : ℕ → Reached Screen → List ℕ → Type 0
+IsQuietBefore count old text = (k : ℕ) → k < count → outs_of_run old (take k text) ≡ []
+
 -- so many bytes of the text are run: they make the new state, and their one side effect is this, if they have
--- one
+-- one. It is that of the last byte
 abbrev pub HasRun : Reached Screen → List ℕ → ℕ → Reached Screen → Option Out → Type 0
 HasRun old text count new said =
     (count ≤ length text) × (run_from old (take count text) ≡ with_outs (outs_of_option said) new)
+    × IsQuietBefore count old text
 
 -- the start: the start screen, and no text
 abbrev pub start : ℕ → ℕ → Reached Screen

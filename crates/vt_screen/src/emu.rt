@@ -181,6 +181,7 @@ impl Emu {
 
     // Runs a sequence or line feeds at the start of the text, and returns the number of their bytes.
     #[inline(always)]
+    #[tactic(auto, using(crate::proofs::Quiet::quiet_none))]
     fn take_run(&mut self, b: &[u8], said: &mut SideEffect) -> usize
         requires { 0 < length b.now }
         ensures { HasRun self.old b.now result self.new said.new }
@@ -200,6 +201,7 @@ impl Emu {
 
     // Runs the line feeds at the start of the text at once, if they scroll, and returns their number.
     #[inline(never)]
+    #[tactic(auto, using(crate::proofs::Quiet::quiet_none))]
     fn scroll_linefeeds(&mut self, b: &[u8]) -> usize
         ensures { HasRun self.old b.now result self.new None }
     {
@@ -217,6 +219,7 @@ impl Emu {
 
     // Prints characters at the start of the text, and returns the number of their bytes.
     #[inline(always)]
+    #[tactic(auto, using(crate::proofs::Quiet::quiet_none))]
     fn print_prefix(&mut self, b: &[u8]) -> usize
         requires { 0 < length b.now }
         ensures { HasRun self.old b.now result self.new None }
@@ -232,6 +235,7 @@ impl Emu {
 
     // Prints whole characters at the start of the text, and returns the number of their bytes.
     #[inline(never)]
+    #[tactic(auto, using(crate::proofs::Quiet::quiet_none))]
     fn print_characters(&mut self, b: &[u8]) -> usize
         ensures { HasRun self.old b.now result self.new None }
     {

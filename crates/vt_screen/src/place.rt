@@ -1,6 +1,6 @@
 //! The cursor's place after a byte that scrolls nothing.
-ghost use Rattle.std.specs.Prelude.{◌≡◌, IfSome};
-ghost use Rattle.vt_screen.specs.ChangedRows.{Moves, after_cell};
+ghost use Rattle.std.specs.Prelude.{◌≡◌, IfSome, is_some};
+ghost use Rattle.vt_screen.specs.ChangedRows.{Moves, after_cell, has_next_place};
 
 use vt_cells::columns_are_few;
 use vt_units::{controls_are_units, printables_are_characters};
@@ -16,7 +16,8 @@ pub(crate) struct Place {
 /// The place after a printable character of ASCII, BEL, BS, LF or CR. It isn't known after any other byte, nor
 /// if the region scrolls.
 pub(crate) fn next_place(cols: u8, bottom: u8, at: Place, b: u8) -> Option<Place>
-    ensures { IfSome result (Moves cols bottom b at) }
+    ensures moves { IfSome result (Moves cols bottom b at) }
+    ensures known { is_some result ≡ has_next_place bottom at b }
 {
     columns_are_few();
     printables_are_characters();

@@ -1,6 +1,6 @@
 //! A text of any length.
 ghost use Rattle.std.specs.Prelude.{◌≡◌, ◌≤◌, None, length, take};
-ghost use Rattle.vt_screen.specs.Run.{after, outs_of_option, outs_of_run};
+ghost use Rattle.vt_screen.specs.Run.{IsQuietBefore, after, outs_of_option, outs_of_run};
 
 use crate::side_effect::SideEffect;
 use crate::{Emu, any_cut};
@@ -21,11 +21,13 @@ impl Emu {
     }
 
     /// Runs a text of any length on the screen up to its first side effect, or to its end. Returns the
-    /// number of bytes that were run; `effect` then is their side effect, if they have one.
+    /// number of bytes that were run; `effect` then is the side effect of the last one, if it has one.
+    #[tactic(auto, using(crate::proofs::Quiet::quiet_none))]
     pub fn write_until(&mut self, b: &[u8], effect: &mut SideEffect) -> usize
         ensures within { result ≤ length b.now }
         ensures screen { self.new ≡ after self.old (take result b.now) }
         ensures effect { outs_of_option effect.new ≡ outs_of_run self.old (take result b.now) }
+        ensures first { IsQuietBefore result self.old b.now }
         ensures all { effect.new ≡ None → result ≡ length b.now }
     {
         effect.clear();

@@ -128,6 +128,121 @@ module _ {S : Type 0} (e : Effects S) (law : UnfinishedBegins)
       subst (λ (r : Rest). reading r.mode r.text ≡ reading m w) (base_some left m w (unfinished_some m w k is)) (base_reads e s left m w st)
       ∙ is
 
+  -- the first bytes of a piece, whose text is unfinished
+  module _ (at : Reached S) (ok : IsRest at.rest) (front : List ℕ) (k : Kind)
+      (was : reading (mode_at at) (text_at at front) ≡ unfinished k) where
+    read : Becomes e (unfinished k) (run e front at) (state_at at front) (mode_at at) (text_at at front) (rest_at at front)
+    read = subst (λ now. Becomes e now (run e front at) (state_at at front) (mode_at at) (text_at at front) (rest_at at front)) was
+        (walked at ok front (some_unfinished (reading (mode_at at) (text_at at front)) k was))
+
+    left-reads : reading (rest_at at front).mode (rest_at at front).text ≡ unfinished k
+    left-reads = reads-left (state_at at front) (rest_at at front) (mode_at at) (text_at at front) k read.1 was
+
+    left-is : in_string (unfinished k) ≡ false → rest_at at front ≡ rest_of (mode_at at) (text_at at front)
+    left-is out = plain-left (state_at at front) (rest_at at front) (mode_at at) (text_at at front) k read.1 was out
+
+  alike-step : (b : ℕ) (s : S) (left other : Rest) → AreAlike left other (e.mode_of s) b
+      → step e b (make_reached s left) ≡ step e b (make_reached s other)
+  alike-step b s left other alike = λ i. make_reached (effects_of e (alike.0 i) s) (alike.1 i)
+
+  -- a byte that breaks a sequence off acts as if no text were pending
+  broken-step : (at : Reached S) → IsRest at.rest → (front : List ℕ) (k : Kind) (b : ℕ)
+      → reading (mode_at at) (text_at at front) ≡ unfinished k → in_string (unfinished k) ≡ false
+      → (unfinished k ≡ unfinished sequence) ⊎ (unfinished k ≡ unfinished command) → interrupts (mode_at at) b ≡ true
+      → step e b (run e front at) ≡ step e b (make_reached (state_at at front) (fresh (mode_at at)))
+  broken-step at ok front k b was out sort breaks =
+      let s : S = state_at at front in
+      let left : Rest = rest_at at front in
+      let breaks_left : interrupts left.mode b ≡ true =
+      ap (λ (r : Rest). interrupts r.mode b) (left-is at ok front k was out) ∙ breaks in
+      let alike : AreAlike left (fresh (e.mode_of s)) (e.mode_of s) b =
+      sequences_end left (e.mode_of s) b
+      (⊎_elim (λ (one : unfinished k ≡ unfinished sequence). inl (left-reads at ok front k was ∙ one))
+      (λ (one : unfinished k ≡ unfinished command). inr (left-reads at ok front k was ∙ one)) sort)
+      breaks_left in
+      ap (step e b) (read at ok front k was).0 ∙ alike-step b s left (fresh (e.mode_of s)) alike
+
+  -- the byte that ends an unfinished text acts as it does from the result of that end
+  abbrev EndsAs : Reached S → List ℕ → ℕ → Reached S → Type 0
+  EndsAs at front b next = (step e b (run e front at) ≡ step e b next) × IsRest next.rest
+
+  ended-step : (at : Reached S) → IsRest at.rest → (front : List ℕ) (k : Kind) (b : ℕ) (next : Reached S)
+      → reading (mode_at at) (text_at at front) ≡ unfinished k
+      → IsEnded e k (mode_at at) (text_at at front) b (state_at at front) (rest_at at front) next
+      → EndsAs at front b next
+  ended-step at ok front character b next was (out, is) =
+      let m : Mode = mode_at at in
+      let w : List ℕ = text_at at front in
+      let s : S = state_at at front in
+      let n : Mode = e.mode_of s in
+      let t : S = e.on_unit (units.Unit.Char 0xFFFD) s in
+      let ends = characters_end (rest_of m w) n b was out in
+      let first : step e b (make_reached s (rest_of m w)) ≡ make_reached (effects_of e (answer (fresh m) n b) t) (rest_after (fresh m) n b) =
+      λ i. make_reached (effects_of e (ends.0 i) s) (ends.1 i) in
+      let second : step e b (make_reached t (fresh m)) ≡ make_reached (effects_of e (answer (fresh m) n b) t) (rest_after (fresh m) n b) =
+      ap (λ (x : Mode). make_reached (effects_of e (answer (fresh m) x b) t) (rest_after (fresh m) x b)) (keeps s) in
+      subst (EndsAs at front b) (sym is) (
+        ap (step e b) ((read at ok front character was).0 ∙ ap (make_reached s) (left-is at ok front character was refl)) ∙ first ∙ sym second,
+        inl refl,
+      )
+  ended-step at ok front sequence b next was (breaks, is) =
+      subst (EndsAs at front b) (sym is) (broken-step at ok front sequence b was refl (inl refl) breaks, inl refl)
+  ended-step at ok front command b next was (breaks, is) =
+      subst (EndsAs at front b) (sym is) (broken-step at ok front command b was refl (inr refl) breaks, inl refl)
+  ended-step at ok front string b next was never = absurd never
+  ended-step at ok front string_end b next was (other, is) =
+      let s : S = state_at at front in
+      let left : Rest = rest_at at front in
+      let opened : Rest = rest_of left.mode (0x1B ∷ []) in
+      let alike : AreAlike left opened (e.mode_of s) b =
+      strings_end left (e.mode_of s) b (left-reads at ok front string_end was) other in
+      subst (EndsAs at front b) (sym is)
+      (ap (step e b) (read at ok front string_end was).0 ∙ alike-step b s left opened alike, inr (sequence, refl))
+
+  -- so do the bytes behind it
+  ended-run : (at : Reached S) → IsRest at.rest → (front : List ℕ) (k : Kind) (bytes : List ℕ) (next : Reached S)
+      → reading (mode_at at) (text_at at front) ≡ unfinished k
+      → IsEndedBefore e k (mode_at at) (text_at at front) bytes (state_at at front) (rest_at at front) next
+      → (run e bytes (run e front at) ≡ run e bytes next) × IsRest next.rest
+  ended-run at ok front k [] next was never = absurd never
+  ended-run at ok front k (b ∷ bytes) next was end =
+      let p : EndsAs at front b next = ended-step at ok front k b next was end in
+      (ap (run e bytes) p.0, p.1)
+
+  -- the result of a piece, with the bytes behind it
+  piece-runs : (at : Reached S) → IsRest at.rest → (piece bytes : List ℕ) (next : Reached S)
+      → IsPiece e at piece bytes next → (run e bytes (run e piece at) ≡ run e bytes next) × IsRest next.rest
+  piece-runs at ok piece bytes next is = by (reading (mode_at at) (text_at at piece)) refl is
+    where
+      there : (now : Reading) → reading (mode_at at) (text_at at piece) ≡ now → IsSome now
+          → Becomes e now (run e piece at) (state_at at piece) (mode_at at) (text_at at piece) (rest_at at piece)
+      there now was some =
+          subst (λ x. Becomes e x (run e piece at) (state_at at piece) (mode_at at) (text_at at piece) (rest_at at piece)) was
+          (walked at ok piece (subst IsSome (sym was) some))
+
+      by : (now : Reading) → reading (mode_at at) (text_at at piece) ≡ now
+          → PieceComesTo e now (mode_at at) (text_at at piece) bytes (state_at at piece) (rest_at at piece) next
+          → (run e bytes (run e piece at) ≡ run e bytes next) × IsRest next.rest
+      by (whole u) was comes =
+          (ap (run e bytes) (there (whole u) was tt ∙ sym comes), subst (λ (x : Reached S). IsRest x.rest) (sym comes) (inl refl))
+      by dropped was comes =
+          (ap (run e bytes) (there dropped was tt ∙ sym comes), subst (λ (x : Reached S). IsRest x.rest) (sym comes) (inl refl))
+      by (unfinished k) was comes = ended-run at ok piece k bytes next was comes
+      by none was comes = absurd comes
+
+  cuts-run : (pieces : List (List ℕ)) (last : List ℕ) (at after : Reached S) → IsRest at.rest
+      → ComeInOrder e at pieces last after → after ≡ run e (all_bytes pieces last) at
+  cuts-run [] last at after ok (inl (none_yet, nothing, is)) = is ∙ ap (λ xs. run e xs at) (sym none_yet)
+  cuts-run [] last at after ok (inr ((k, was), is)) = is ∙ sym (read at ok last k was).0
+  cuts-run (piece ∷ pieces) last at after ok (next, one, more) =
+      let p = piece-runs at ok piece (all_bytes pieces last) next one in
+      cuts-run pieces last next after p.1 more ∙ sym p.0 ∙ sym (any_cut e piece (all_bytes pieces last) at)
+
+  -- the result of any pieces of a text, and of its last rest, is its run
+  pub cut_runs : (at : Reached S) (bytes : List ℕ) (after : Reached S) → IsRest at.rest → IsCut e at bytes after
+      → after ≡ run e bytes at
+  cut_runs at bytes after ok c = cuts-run c.pieces c.last at after ok c.come ∙ ap (λ xs. run e xs at) c.all
+
   -- one byte more, where the bytes behind it are cut
   module _ (b : ℕ) (bytes : List ℕ)
       (again : (at : Reached S) → IsRest at.rest → (front : List ℕ) → Unread at front → CutFrom at front bytes) where
@@ -163,12 +278,13 @@ module _ {S : Type 0} (e : Effects S) (law : UnfinishedBegins)
     fresh-cut s n = advance (make_reached s (fresh n)) (inl refl) [] (one_some (e.mode_of s) b)
 
     -- a piece that the byte ends
-    ended : (at : Reached S) (front : List ℕ) (k : Kind) (next : Reached S) → reading (mode_at at) (text_at at front) ≡ unfinished k
+    ended : (at : Reached S) → IsRest at.rest → (front : List ℕ) (k : Kind) (next : Reached S)
+        → reading (mode_at at) (text_at at front) ≡ unfinished k
         → IsEnded e k (mode_at at) (text_at at front) b (state_at at front) (rest_at at front) next
-        → step e b (run e front at) ≡ step e b next → CutFrom next [] (b ∷ bytes) → CutFrom at front (b ∷ bytes)
-    ended at front k next is end there c =
+        → CutFrom next [] (b ∷ bytes) → CutFrom at front (b ∷ bytes)
+    ended at ok front k next is end c =
         let runs : run e (front ++ b ∷ bytes) at ≡ run e (b ∷ bytes) next =
-        any_cut e front (b ∷ bytes) at ∙ ap (run e bytes) there in
+        any_cut e front (b ∷ bytes) at ∙ ap (run e bytes) (ended-step at ok front k b next is end).0 in
         record {
           pieces = front ∷ c.pieces;
           last = c.last;
@@ -182,57 +298,18 @@ module _ {S : Type 0} (e : Effects S) (law : UnfinishedBegins)
           );
         }
 
-    alike-step : (s : S) (left other : Rest) → AreAlike left other (e.mode_of s) b
-        → step e b (make_reached s left) ≡ step e b (make_reached s other)
-    alike-step s left other alike = λ i. make_reached (effects_of e (alike.0 i) s) (alike.1 i)
+    broken-off : (at : Reached S) → IsRest at.rest → (front : List ℕ) (k : Kind) → reading (mode_at at) (text_at at front) ≡ unfinished k
+        → IsEnded e k (mode_at at) (text_at at front) b (state_at at front) (rest_at at front) (make_reached (state_at at front) (fresh (mode_at at)))
+        → CutFrom at front (b ∷ bytes)
+    broken-off at ok front k was end =
+        ended at ok front k (make_reached (state_at at front) (fresh (mode_at at))) was end (fresh-cut (state_at at front) (mode_at at))
 
-    -- by the kind of the text
-    module _ (at : Reached S) (ok : IsRest at.rest) (front : List ℕ) (k : Kind)
-        (was : reading (mode_at at) (text_at at front) ≡ unfinished k) where
-      read : Becomes e (unfinished k) (run e front at) (state_at at front) (mode_at at) (text_at at front) (rest_at at front)
-      read = subst (λ now. Becomes e now (run e front at) (state_at at front) (mode_at at) (text_at at front) (rest_at at front)) was
-          (walked at ok front (some_unfinished (reading (mode_at at) (text_at at front)) k was))
-
-      left-reads : reading (rest_at at front).mode (rest_at at front).text ≡ unfinished k
-      left-reads = reads-left (state_at at front) (rest_at at front) (mode_at at) (text_at at front) k read.1 was
-
-      left-is : in_string (unfinished k) ≡ false → rest_at at front ≡ rest_of (mode_at at) (text_at at front)
-      left-is out = plain-left (state_at at front) (rest_at at front) (mode_at at) (text_at at front) k read.1 was out
-
-      broken-off : in_string (unfinished k) ≡ false
-          → (unfinished k ≡ unfinished sequence) ⊎ (unfinished k ≡ unfinished command)
-          → (interrupts (mode_at at) b ≡ true
-          → IsEnded e k (mode_at at) (text_at at front) b (state_at at front) (rest_at at front) (make_reached (state_at at front) (fresh (mode_at at))))
-          → interrupts (mode_at at) b ≡ true → CutFrom at front (b ∷ bytes)
-      broken-off out sort end breaks =
-          let s : S = state_at at front in
-          let left : Rest = rest_at at front in
-          let breaks_left : interrupts left.mode b ≡ true = ap (λ (r : Rest). interrupts r.mode b) (left-is out) ∙ breaks in
-          let alike : AreAlike left (fresh (e.mode_of s)) (e.mode_of s) b =
-          sequences_end left (e.mode_of s) b
-          (⊎_elim (λ (one : unfinished k ≡ unfinished sequence). inl (left-reads ∙ one)) (λ (one : unfinished k ≡ unfinished command). inr (left-reads ∙ one)) sort)
-          breaks_left in
-          ended at front k (make_reached s (fresh (mode_at at))) was (end breaks)
-          (ap (step e b) read.0 ∙ alike-step s left (fresh (e.mode_of s)) alike)
-          (fresh-cut s (mode_at at))
-
-    malformed : (at : Reached S) (ok : IsRest at.rest) (front : List ℕ)
+    malformed : (at : Reached S) → IsRest at.rest → (front : List ℕ)
         → reading (mode_at at) (text_at at front) ≡ unfinished character
         → reading (mode_at at) (text_at at front ++ b ∷ []) ≡ none → CutFrom at front (b ∷ bytes)
     malformed at ok front was out =
-        let m : Mode = mode_at at in
-        let w : List ℕ = text_at at front in
-        let s : S = state_at at front in
-        let n : Mode = e.mode_of s in
-        let t : S = e.on_unit (units.Unit.Char 0xFFFD) s in
-        let ends = characters_end (rest_of m w) n b was out in
-        let first : step e b (make_reached s (rest_of m w)) ≡ make_reached (effects_of e (answer (fresh m) n b) t) (rest_after (fresh m) n b) =
-        λ i. make_reached (effects_of e (ends.0 i) s) (ends.1 i) in
-        let second : step e b (make_reached t (fresh m)) ≡ make_reached (effects_of e (answer (fresh m) n b) t) (rest_after (fresh m) n b) =
-        ap (λ (x : Mode). make_reached (effects_of e (answer (fresh m) x b) t) (rest_after (fresh m) x b)) (keeps s) in
-        ended at front character (make_reached t (fresh m)) was (out, refl)
-        (ap (step e b) ((read at ok front character was).0 ∙ ap (make_reached s) (left-is at ok front character was refl)) ∙ first ∙ sym second)
-        (fresh-cut t m)
+        let t : S = e.on_unit (units.Unit.Char 0xFFFD) (state_at at front) in
+        ended at ok front character (make_reached t (fresh (mode_at at))) was (out, refl) (fresh-cut t (mode_at at))
 
     -- a byte that is no part of a text that isn't finished
     module _ (at : Reached S) (ok : IsRest at.rest) (front : List ℕ)
@@ -258,8 +335,8 @@ module _ {S : Type 0} (e : Effects S) (law : UnfinishedBegins)
 
       cut-sequence : reading (mode_at at) (text_at at front) ≡ unfinished sequence → CutFrom at front (b ∷ bytes)
       cut-sequence was =
-          broken-off at ok front sequence was refl (inl refl) (λ breaks. (breaks, refl))
-          (breaks_sequence (mode_at at) b none (part sequence was) (after sequence was) refl)
+          broken-off at ok front sequence was
+          (breaks_sequence (mode_at at) b none (part sequence was) (after sequence was) refl, refl)
 
     -- behind the ESC that ended a string
     escape-cut : (s : S) (n : Mode) → CutFrom (make_reached s (rest_of n (0x1B ∷ []))) [] (b ∷ bytes)
@@ -284,23 +361,18 @@ module _ {S : Type 0} (e : Effects S) (law : UnfinishedBegins)
         absurd (not-none (reading m (text_of m (rest_before_piece e at).text (front ++ b ∷ []))) some out)
     cut-out at ok front (inr (sequence, was)) out = cut-sequence at ok front out was
     cut-out at ok front (inr (command, was)) out =
-        broken-off at ok front command was refl (inr refl) (λ breaks. (breaks, refl))
-        (breaks_command (mode_at at) b none (part at ok front out command was) (after at ok front out command was) refl)
+        broken-off at ok front command was
+        (breaks_command (mode_at at) b none (part at ok front out command was) (after at ok front out command was) refl, refl)
     cut-out at ok front (inr (character, was)) out = malformed at ok front was (out-now at ok front out character was)
     cut-out at ok front (inr (string, was)) out =
         let next : none ≡ string_next b = after at ok front out string was in
         absurd (not-none (string_next b) (string_some b) (sym next))
     cut-out at ok front (inr (string_end, was)) out =
-        let s : S = state_at at front in
         let left : Rest = rest_at at front in
         let next : none ≡ cond (b == 0x5C) (whole Ignored) none = after at ok front out string_end was in
         let other : (b == 0x5C) ≡ false = ends_off (b == 0x5C) (sym next) in
-        let opened : Rest = rest_of left.mode (0x1B ∷ []) in
-        let alike : AreAlike left opened (e.mode_of s) b =
-        strings_end left (e.mode_of s) b (left-reads at ok front string_end was) other in
-        ended at front string_end (make_reached s opened) was (other, refl)
-        (ap (step e b) (read at ok front string_end was).0 ∙ alike-step s left opened alike)
-        (escape-cut s left.mode)
+        ended at ok front string_end (make_reached (state_at at front) (rest_of left.mode (0x1B ∷ []))) was (other, refl)
+        (escape-cut (state_at at front) left.mode)
 
     cut-more : (at : Reached S) → IsRest at.rest → (front : List ℕ) → Unread at front → CutFrom at front (b ∷ bytes)
     cut-more at ok front unread = by (reading (mode_at at) (text_at at (front ++ b ∷ []))) refl

@@ -84,3 +84,11 @@ TextsAreCut =
     → ((events : List Event) → mode_of (events ++ did (units.Unit.Char 0xFFFD) ∷ []) ≡ mode_of events)
     → (at : Reached (List Event)) (bytes : List ℕ) → IsRest at.rest
     → IsCut (event_effects mode_of) at bytes (run (event_effects mode_of) bytes at)
+
+-- however a text is cut into pieces and one last rest, their result is its run
+abbrev pub CutsAreRuns : Type 0
+CutsAreRuns =
+    (mode_of : List Event → Mode)
+    → ((events : List Event) → mode_of (events ++ did (units.Unit.Char 0xFFFD) ∷ []) ≡ mode_of events)
+    → (at : Reached (List Event)) (bytes : List ℕ) (after : Reached (List Event)) → IsRest at.rest
+    → IsCut (event_effects mode_of) at bytes after → after ≡ run (event_effects mode_of) bytes at

@@ -6,7 +6,7 @@ use Rattle.vt_units.specs.Bytes.{decodes, interrupts, is_control, is_printable}
 use Rattle.vt_units.specs.Pieces.{HasEffect, controls_of, rest_with, text_of}
 use Rattle.vt_units.specs.Reading.{character, sequence, command, string_end, dropped, unfinished, none, reading, whole}
 use Rattle.vt_units.specs.Rest.{Rest, fresh}
-use Rattle.vt_units.specs.Run.{Effects, Reached, Runs, make_reached, run}
+use Rattle.vt_units.specs.Run.{Effects, Reached, make_reached, run}
 use Rattle.vt_units.specs.Units.{IsUnfinished}
 use Rattle.vt_units.specs.declared.mode.Mode.{Mode}
 use Rattle.vt_units.specs.declared.then.Then as then
@@ -24,13 +24,6 @@ event_effects mode_of = record {
   on_control = λ c events. events ++ act c ∷ [];
   on_unit = λ u events. events ++ did u ∷ [];
 }
-
--- one result: a run has a result, and has no other
-abbrev pub OneResult : Type 0
-OneResult =
-    (mode_of : List Event → Mode) (at : Reached (List Event)) (bytes : List ℕ)
-    → (after : Reached (List Event)) × Runs (event_effects mode_of) at bytes after
-    × ((other : Reached (List Event)) → Runs (event_effects mode_of) at bytes other → other ≡ after)
 
 -- any cut: bytes run as a whole are run in two parts, wherever they are cut
 abbrev pub AnyCut : Type 0

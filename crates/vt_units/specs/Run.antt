@@ -43,6 +43,3 @@ step e b at =
 abbrev pub run : {S : Type 0} → Effects S → List ℕ → Reached S → Reached S
 run e [] at = at
 run e (b ∷ bytes) at = run e bytes (step e b at)
-
-abbrev pub Runs : {S : Type 0} → Effects S → Reached S → List ℕ → Reached S → Type 0
-Runs e at bytes after = after ≡ run e bytes at

@@ -1,6 +1,6 @@
 //! Laws of the definitions. They don't depend on the reader.
-ghost use Rattle.vt_units.specs.Cutting.{TextsAreCut};
-ghost use Rattle.vt_units.specs.Laws.{AnyCut, CharactersEnd, ControlsAreUnits, DropsExactly, OneResult, PiecesAct, PiecesResume, PrintablesAreCharacters, SequencesAreUnits, SequencesEnd, StringsEnd, TextsSpellCharacters};
+ghost use Rattle.vt_units.specs.Cutting.{CutsAreRuns, TextsAreCut};
+ghost use Rattle.vt_units.specs.Laws.{AnyCut, CharactersEnd, ControlsAreUnits, DropsExactly, PiecesAct, PiecesResume, PrintablesAreCharacters, SequencesAreUnits, SequencesEnd, StringsEnd, TextsSpellCharacters};
 ghost use Rattle.vt_units.specs.Units.{UnfinishedIsBefore};
 
 use vt_chars::unfinished_begins;
@@ -11,11 +11,6 @@ pub fn unfinished_is_before()
 {
     unfinished_begins();
 }
-
-/// A run has exactly one result.
-pub fn one_result()
-    ensures { OneResult }
-{}
 
 /// A text has the same run however it is cut.
 pub fn any_cut()
@@ -65,6 +60,13 @@ pub fn texts_spell_characters()
 /// Every text is pieces and one last rest, and its run is their results in order.
 pub fn texts_are_cut()
     ensures { TextsAreCut }
+{
+    unfinished_begins();
+}
+
+/// However a text is cut into pieces and one last rest, their result is its run. So a text has exactly one result.
+pub fn one_result()
+    ensures { CutsAreRuns }
 {
     unfinished_begins();
 }

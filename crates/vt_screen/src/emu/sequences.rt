@@ -57,6 +57,7 @@ impl Emu {
     // Runs the sequence that the text begins with, if it is read at once, and returns the number of its
     // bytes.
     #[inline(never)]
+    #[tactic(auto, using(crate::proofs::Quiet::quiet_none))]
     fn take_sequence(&mut self, b: &[u8], said: &mut SideEffect) -> usize
         ensures { HasRun self.old b.now result self.new said.new }
     {

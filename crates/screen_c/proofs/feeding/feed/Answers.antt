@@ -1,5 +1,5 @@
-use Rattle.std.proofs.Common.{◌≡◌, ℕ, ◌+◌, ◌++◌, List, ap, sym, ◌∙◌, arith, drop, length-drop, map, take}
-use Rattle.screen_c.proofs.Pieces.{count_more, outs_more, places_more, screen_more}
+use Rattle.std.proofs.Common.{◌≡◌, ℕ, ◌+◌, ◌++◌, List, ap, sym, ◌∙◌, arith, drop, length, length-drop, map, take}
+use Rattle.screen_c.proofs.Pieces.{count_more, outs_more, places_more, room_more, screen_more}
 use Rattle.screen_c.specs.Shown.{c_out}
 use Rattle.screen_c.specs.declared.vt_out.VtOut.{VtOut}
 use Rattle.vt_screen.specs.Run.{outs_of_option, outs_of_run}
@@ -33,6 +33,10 @@ loop-n-preserved c =
       screen =
           c.write_until-at.ensures.screen
           ∙ screen_more c.any_cut.ensures c.args.emu.now c.loop-n.emu at m text c.loop-n.invariant.screen;
+      first =
+          room_more c.any_cut.ensures c.args.emu.now c.loop-n.emu at m (length start) text c.loop-n.invariant.screen
+          (omega (arith, c.loop-n-test.true, c.loop-n.invariant.count, c.loop-n.invariant.size)) c.loop-n.invariant.first
+          c.write_until-at.ensures.first;
       count = count_more before more all n k c.loop-n.invariant.count c.put_effect-n.ensures.count whole;
       places =
           c.put_effect-n.ensures.places

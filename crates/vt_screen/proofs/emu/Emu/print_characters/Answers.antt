@@ -2,6 +2,7 @@ use Rattle.std.proofs.Common.{◌≡◌, ◌<◌, false, ℕ, List, [], take, le
 use Rattle.std.proofs.lemmas.Bool.{cond-false}
 use Rattle.std.proofs.lemmas.Bool.Decides.{nat_tests}
 use Rattle.std.proofs.lemmas.List.{length-take-le}
+use Rattle.vt_screen.proofs.Quiet.{quiet_run}
 use Rattle.vt_screen.proofs.Shown.{codes_run}
 use Rattle.vt_screen.specs.Printing.{print_characters}
 use Rattle.vt_screen.specs.Run.{run_from, with_outs}
@@ -26,10 +27,10 @@ returns-then-count-gt0 c =
     let left : c.take_characters-count.new.self ≡ fresh c.mode.result =
     c.take_characters-count.ensures.rest ∙ cond-false (count == 0) rest (fresh c.mode.result) not_none in
     let shown : c.print_codes.new.self ≡ print_characters codes s =
-    c.print_codes.ensures ∙ ap (λ (cs : List ℕ). print_characters cs s) c.as_slice.ensures.codes in (
-      c.take_characters-count.ensures.bound,
-      ap (λ (m : Reached Screen). run_from m front) (sym c.self.view_is)
-          ∙ codes_run c.printables_are_characters.ensures front codes s rest c.mode.result c.mode.ensures
-          c.take_characters-count.ensures.texts long begun.0 begun.1
-          ∙ (λ i. with_outs [] (make_reached (sym shown i) (sym left i))),
-    )
+    c.print_codes.ensures ∙ ap (λ (cs : List ℕ). print_characters cs s) c.as_slice.ensures.codes in
+    let ran : run_from c.args.self.now front ≡ with_outs [] (make_reached c.print_codes.new.self c.take_characters-count.new.self) =
+    ap (λ (m : Reached Screen). run_from m front) (sym c.self.view_is)
+    ∙ codes_run c.printables_are_characters.ensures front codes s rest c.mode.result c.mode.ensures
+    c.take_characters-count.ensures.texts long begun.0 begun.1
+    ∙ (λ i. with_outs [] (make_reached (sym shown i) (sym left i))) in
+    (c.take_characters-count.ensures.bound, ran, quiet_run c.args.self.now text count _ ran)

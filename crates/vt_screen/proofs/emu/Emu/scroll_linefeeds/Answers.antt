@@ -2,6 +2,7 @@ use Rattle.std.proofs.Common.{◌≡◌, ◌<◌, ◌==◌, ◌&&◌, not, Bool,
 use Rattle.std.proofs.lemmas.Bool.{and_parts}
 use Rattle.std.proofs.lemmas.List.{length-take-le}
 use Rattle.vt_screen.proofs.Printed.{empty_is, rest_behind}
+use Rattle.vt_screen.proofs.Quiet.{quiet_run}
 use Rattle.vt_screen.proofs.Scrolled.{behind_some, feeds_run}
 use Rattle.vt_screen.specs.Cursor.{newlines}
 use Rattle.vt_screen.specs.Run.{run_from, with_outs}
@@ -32,9 +33,9 @@ returns c =
     let drawn : newlines (length bytes) s ≡ c.scroll.new.self =
     ap (λ (k : ℕ). newlines k s) len ∙ sym c.scroll.ensures in
     let behind : rest_behind bytes (mode_of s) rest ≡ c.take_control.new.self =
-    behind_some bytes (mode_of s) rest some ∙ ap fresh (sym c.mode.ensures) ∙ sym left in (
-      c.line_feeds-count.ensures.within,
-      ap (λ (r : Reached Screen). run_from r bytes) (sym c.self.view_is)
-          ∙ feeds_run c.controls_are_units.ensures bytes s rest c.line_feeds-count.ensures.feeds nothing
-          ∙ (λ i. with_outs [] (make_reached (drawn i) (behind i))),
-    )
+    behind_some bytes (mode_of s) rest some ∙ ap fresh (sym c.mode.ensures) ∙ sym left in
+    let ran : run_from c.args.self.now bytes ≡ with_outs [] (make_reached c.scroll.new.self c.take_control.new.self) =
+    ap (λ (r : Reached Screen). run_from r bytes) (sym c.self.view_is)
+    ∙ feeds_run c.controls_are_units.ensures bytes s rest c.line_feeds-count.ensures.feeds nothing
+    ∙ (λ i. with_outs [] (make_reached (drawn i) (behind i))) in
+    (c.line_feeds-count.ensures.within, ran, quiet_run c.args.self.now text n _ ran)

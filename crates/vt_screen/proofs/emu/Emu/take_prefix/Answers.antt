@@ -1,5 +1,6 @@
 use Rattle.std.proofs.Common.{◌≡◌, ℕ, List, None, [], ◌∷◌, get_or, sym, ap, subst, ◌∙◌, arith}
 use Rattle.vt_screen.proofs.Feeds.{none_run, take_one}
+use Rattle.vt_screen.proofs.Quiet.{quiet_one}
 use Rattle.vt_screen.specs.Run.{HasRun, run_from}
 use Rattle.vt_screen.specs.Screen.{Screen}
 use Rattle.vt_units.specs.Run.{Reached}
@@ -23,4 +24,5 @@ returns-clause-ran c =
       ap (run_from c.args.self.now) (take_one text c.requires)
           ∙ ap (λ (m : Reached Screen). run_from m (get_or text 0 0 ∷ [])) same
           ∙ c.take_quickly.ensures,
+      quiet_one c.args.self.now text,
     )

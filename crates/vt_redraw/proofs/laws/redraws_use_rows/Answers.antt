@@ -1,0 +1,5 @@
+use Rattle.vt_redraw.proofs.Parts.{redraws_use_rows}
+use Rattle.vt_redraw.proofs.laws.redraws_use_rows.Goals as goal
+
+pub returns : goal.returns
+returns c = redraws_use_rows
