@@ -13,7 +13,8 @@ pub trait Source {
     ghost steady: { Bool };
 
     /// Moves the next bytes to the beginning of `buf` and returns their number. 0 is the end of the
-    /// input if `buf` isn't empty. A read that fails takes none of the bytes that are left.
+    /// input if `buf` isn't empty. A read that fails takes none of the bytes that are left. If the source is
+    /// steady, a read that doesn't fail leaves the count of faults unchanged.
     fn read(&mut self, buf: &mut [u8]) -> Result<usize, Failed>
         ensures { IsRead steady (stream self.old) (stream self.new) buf.old buf.new result };
 }
