@@ -1,7 +1,7 @@
 -- A keyboard's keys are released one after another.
-use Rattle.std.proofs.Common.{◌≡◌, ℕ, ◌+◌, ◌/◌, ◌%◌, ◌==◌, ◌&&◌, not, Bool, true, false, List, [], ◌∷◌, Option, Some, None, refl, ap, arith, ⊎_elim, rules}
+use Rattle.std.proofs.Common.{◌≡◌, ℕ, ◌≤◌, ◌+◌, ◌/◌, ◌%◌, ◌==◌, ◌&&◌, not, Bool, true, false, List, [], ◌∷◌, Option, Some, None, length, refl, ap, arith, ⊎_elim, rules}
 use Rattle.std.specs.Prelude.{filter}
-use Rattle.std.proofs.lemmas.Bool.{cases_Bool, cases_order, eq-eqb, and_right}
+use Rattle.std.proofs.lemmas.Bool.{cases_Bool, cases_order, eq-eqb, ne_eqb, and_right}
 use Rattle.key_machine.specs.Held.{downs, downs_from, left_to, stays}
 use Rattle.key_machine.specs.Keys.{Down, down_as, is_key, without_key, without_keyboard}
 use Rattle.key_machine.proofs.Places.{apart, less, not-less}
@@ -52,3 +52,17 @@ pub left_all : (entries : List (Option Act)) (from : ℕ)
     → left_to from 256 (downs entries) ≡ without_keyboard (downs entries) from
 unfolding downs without_keyboard
 left_all entries from = all_from entries from 0
+
+-- 1,024 places are those of four keyboards
+four_from : (entries : List (Option Act)) (from n : ℕ) → 4 ≤ from → n + length entries ≤ 1024
+    → filter (λ (d : Down). not (d.from == from)) (downs_from n entries) ≡ downs_from n entries
+four_from [] from n high all = refl
+four_from (None ∷ entries) from n high all = four_from entries from (n + 1) high (omega (arith, all))
+four_from (Some a ∷ entries) from n high all =
+    let other : (n / 256 == from) ≡ false = ne_eqb (n / 256) from (λ same. let no : ⊥ = omega (arith, same, high, all) in no) in
+    rw other (ap (λ (ds : List Down). down_as (n / 256) (n % 256) a ∷ ds) (four_from entries from (n + 1) high (omega (arith, all))))
+
+pub four_all : (entries : List (Option Act)) (from : ℕ) → 4 ≤ from → length entries ≡ 1024
+    → without_keyboard (downs entries) from ≡ downs entries
+unfolding downs without_keyboard
+four_all entries from high all = four_from entries from 0 high (omega (arith, all))

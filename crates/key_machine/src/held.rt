@@ -1,4 +1,4 @@
-ghost use Rattle.std.specs.Prelude.{◌≡◌, ◌<◌, ◌+◌, ◌*◌, [], None, cond, is_some, nat_lt, IfSome};
+ghost use Rattle.std.specs.Prelude.{◌≡◌, ◌<◌, ◌≤◌, ◌+◌, ◌*◌, [], None, cond, is_some, nat_lt, IfSome};
 ghost use Rattle.key_machine.specs.Held.{left_to, modifier_of};
 ghost use Rattle.key_machine.specs.Keys.{recorded_action, weight_of, with_key, without_key, without_keyboard};
 ghost use Rattle.key_machine.specs.Step.{was_modifier};
@@ -90,6 +90,15 @@ impl HeldKeys {
     // Does nothing. It is called for its clause: every keycode is below 256.
     fn has_bytes(&self, from: KeyboardNo)
         ensures { left_to from 256 self.now ≡ without_keyboard self.now from }
+    {
+        let _entries = &self.entries;
+    }
+
+    /// Does nothing. It is called for its clause: the keyboards are 0 to 3, so none with a greater
+    /// number has a key down.
+    pub(crate) fn has_four(&self, from: u8)
+        requires { 4 ≤ from }
+        ensures { without_keyboard self.now from ≡ self.now }
     {
         let _entries = &self.entries;
     }

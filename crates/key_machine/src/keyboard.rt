@@ -19,7 +19,7 @@ use key_syms::{Action, kind};
 use key_tables::KeyTables;
 use scan_codes::KeyEvent;
 use std::marker::Model;
-use vt_base::KeyboardNo;
+use vt_base::{KEYBOARDS, KeyboardNo};
 
 /// Up to four keyboards that type together: the keys that are down, each with the action of its
 /// press, and the accent, Compose or number that waits for the next key. A key event takes no
@@ -91,12 +91,16 @@ impl Keyboard {
     }
 
     /// The keyboard `from` is unplugged: its keys are released and send nothing. The accent or Compose
-    /// that waits, the number and the keys of other keyboards stay. It looks at every keycode.
+    /// that waits, the number and the keys of other keyboards stay. It looks at every keycode. If `from` is 4 or
+    /// greater, no keyboard has this number, and nothing changes.
     pub fn unplug(&mut self, from: u8)
-        requires { from < 4 }
         ensures { self.new ≡ after_unplug from self.old }
     {
-        self.held.unplug(KeyboardNo::numbered(from));
+        if usize::from(from) < KEYBOARDS {
+            self.held.unplug(KeyboardNo::numbered(from));
+        } else {
+            self.held.has_four(from);
+        }
     }
 
     // A key goes down. Its weight is taken before it is recorded: this order is part of the rule.

@@ -1,7 +1,8 @@
 //! The check of a journal, and a replay of it for a witness.
-ghost use Rattle.std.specs.Prelude.{◌≡◌, ◌↔◌, [], IfOk};
+ghost use Rattle.std.specs.Prelude.{◌≡◌, ◌↔◌, ℕ, [], take, IfOk, OnErr};
 ghost use Rattle.session_order.specs.Sessions.{IsRightHistory, setup_of, start_of};
 ghost use Rattle.vt_check.specs.Verdicts.{IsRightJournal, Judges};
+ghost use Rattle.vt_check.specs.Watching.{HasSeenSome};
 ghost use Rattle.vt_check.specs.declared.verdict.Verdict.{Verdict};
 ghost use Rattle.vt_check.specs.declared.verdict.Verdict.TheVariants as verdict;
 ghost use Rattle.vt_world.specs.History.{replay};
@@ -33,7 +34,8 @@ pub fn check(alloc: Global, s: &Session, j: &Journal) -> Result<Verdict, NoMemor
 }
 
 /// The verdict on the journal, the same as that of `check`. The witness, which has seen nothing yet, is shown
-/// each entry before the first that fails.
+/// each entry before the first that fails. If memory runs out, it has seen the first entries, and perhaps a part of
+/// the next one.
 pub fn watch<W: Witness>(
     alloc: Global,
     s: &Session,
@@ -46,6 +48,10 @@ pub fn watch<W: Witness>(
         (replay (start_of s.now) j.now.entries) j.now.entries j.now.tail) }
     ensures saw { IfOk result (λ v. v ≡ verdict.Legal
         → W.saw witness.old (start_of s.now) j.now.entries witness.new) }
+    ensures before { IfOk result (λ v. (index why : ℕ) → v ≡ verdict.Illegal index why
+        → W.saw witness.old (start_of s.now) (take index j.now.entries) witness.new) }
+    ensures some { OnErr result
+        (HasSeenSome W.saw W.saw_part witness.old (start_of s.now) j.now.entries witness.new) }
 {
     session_laws(s);
     let entries = j.entries.as_slice();

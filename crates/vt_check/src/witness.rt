@@ -1,4 +1,4 @@
-ghost use Rattle.std.specs.Prelude.{◌≡◌, List, [], ◌∷◌, ◌++◌, ⊤, OnOk};
+ghost use Rattle.std.specs.Prelude.{◌≡◌, List, [], ◌∷◌, ◌++◌, ⊤, OnErr, OnOk};
 ghost use Rattle.vt_check.specs.Watching.{IsNextEntry, MaySee};
 ghost use Rattle.vt_events.specs.declared.entry.Entry.{Entry};
 ghost use Rattle.vt_world.specs.State.{WorldState};
@@ -19,6 +19,10 @@ pub trait Witness {
     /// implementation states here what its callers may use.
     ghost saw: { Self → WorldState → List Entry → Self → Type 0 };
 
+    /// The relation of the witness before it sees these entries, from this machine on, and after memory ran out
+    /// while it took the next one. An implementation states here what its callers may use then.
+    ghost saw_part: { Self → WorldState → List Entry → Entry → Self → Type 0 };
+
     /// Takes the entry at this place, and the machine after it.
     fn see(
         &mut self,
@@ -28,10 +32,14 @@ pub trait Witness {
         after: &World,
     ) -> Result<(), NoMemory>
         requires { MaySee saw self.old place entry.now after.now }
-        ensures { OnOk result ((first : Self) (start : WorldState) (before : List Entry)
+        ensures seen { OnOk result ((first : Self) (start : WorldState) (before : List Entry)
             → saw first start before self.old
             → IsNextEntry start before place entry.now after.now
-            → saw first start (before ++ entry.now ∷ []) self.new) };
+            → saw first start (before ++ entry.now ∷ []) self.new) }
+        ensures part { OnErr result ((first : Self) (start : WorldState) (before : List Entry)
+            → saw first start before self.old
+            → IsNextEntry start before place entry.now after.now
+            → saw_part first start before entry.now self.new) };
 }
 
 /// A witness that keeps nothing.
@@ -40,6 +48,8 @@ pub(crate) struct Nobody;
 
 impl Witness for Nobody {
     ghost saw = { λ first start entries now. ⊤ };
+
+    ghost saw_part = { λ first start entries next now. ⊤ };
 
     fn see(
         &mut self,

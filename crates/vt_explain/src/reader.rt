@@ -91,9 +91,13 @@ impl Reader {
 }
 
 impl Witness for Reader {
+    ghost use Rattle.std.specs.Prelude.{⊤};
     ghost use Rattle.vt_explain.specs.Finding.{HasRead};
 
     ghost saw = { λ first start entries now. HasRead start entries now };
+
+    // A reader is dropped if memory runs out.
+    ghost saw_part = { λ first start entries next now. ⊤ };
 
     fn see(
         &mut self,

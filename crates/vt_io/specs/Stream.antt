@@ -1,5 +1,5 @@
 -- Sources and sinks in contracts: their bytes, their faults, and the bounds of a read and a write.
-use Rattle.std.specs.Prelude.{◌≡◌, ℕ, ◌<◌, ◌≤◌, List, length, take, drop, Option, Some, None, Result, IfOk, MatchResult, OnOk}
+use Rattle.std.specs.Prelude.{◌≡◌, ℕ, Bool, IsTrue, ◌<◌, ◌≤◌, List, length, take, drop, Option, Some, None, Result, IfOk, MatchResult, OnOk}
 use Rattle.std.specs.Io.{ReadsAtMost, WritesAtMost}
 use Rattle.std.specs.Io.KnownBytes.{Appends, ReadConsumes, WriteAppends}
 use Rattle.vt_io.specs.Faults.{HasCause}
@@ -31,13 +31,14 @@ FillsFront result before after = MatchResult result
 abbrev pub MovesOn : {E : Type 0} → Result ℕ E → List ℕ → Type 0
 MovesOn result piece = 0 < length piece → IfOk result (λ n. 1 ≤ n)
 
--- a read into a buffer, which was `before` and is `after`; one that doesn't fail leaves the count of faults
-pub record IsRead {E : Type 0} (old new : Stream) (before after : List ℕ) (result : Result ℕ E) : Type 0 where
+-- a read into a buffer, which was `before` and is `after`. If the source is steady, a read that doesn't fail leaves
+-- the count of faults unchanged
+pub record IsRead {E : Type 0} (steady : Bool) (old new : Stream) (before after : List ℕ) (result : Result ℕ E) : Type 0 where
   pub bound : ReadsAtMost result after
   pub bytes : ReadConsumes old.bytes new.bytes result after
   pub buffer : FillsFront result before after
   pub cause : HasCause old.faults new.faults result
-  pub kept : OnOk result (new.faults ≡ old.faults)
+  pub kept : IsTrue steady → OnOk result (new.faults ≡ old.faults)
 
 -- a write of a piece
 pub record IsWrite {E : Type 0} (old new : Stream) (piece : List ℕ) (result : Result ℕ E) : Type 0 where

@@ -1,4 +1,4 @@
-ghost use Rattle.std.specs.Prelude.{◌≡◌};
+ghost use Rattle.std.specs.Prelude.{◌≡◌, true};
 ghost use Rattle.vt_io.specs.Memory.{Reads, source_stream};
 ghost use Rattle.vt_io.specs.Stream.{IsRead};
 
@@ -41,8 +41,10 @@ impl MemSource {
 impl Source for MemSource {
     ghost stream = { source_stream };
 
+    ghost steady = { true };
+
     fn read(&mut self, buf: &mut [u8]) -> Result<usize, Failed>
-        ensures read { IsRead (source_stream self.old) (source_stream self.new) buf.old buf.new result }
+        ensures read { IsRead true (source_stream self.old) (source_stream self.new) buf.old buf.new result }
         ensures exact { Reads self.old self.new buf.old buf.new result }
     {
         if self.fails.take_flag() {

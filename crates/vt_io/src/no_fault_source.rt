@@ -1,4 +1,4 @@
-ghost use Rattle.std.specs.Prelude.{◌≡◌, ◌++◌, length, take, drop, min, IsOkAnd};
+ghost use Rattle.std.specs.Prelude.{◌≡◌, ◌++◌, length, take, drop, min, IsOkAnd, true};
 ghost use Rattle.vt_io.specs.Stream.{IsRead, faultless};
 
 use crate::cursor::Cursor;
@@ -34,8 +34,10 @@ impl NoFaultSource {
 impl Source for NoFaultSource {
     ghost stream = { faultless };
 
+    ghost steady = { true };
+
     fn read(&mut self, buf: &mut [u8]) -> Result<usize, Failed>
-        ensures read { IsRead (faultless self.old) (faultless self.new) buf.old buf.new result }
+        ensures read { IsRead true (faultless self.old) (faultless self.new) buf.old buf.new result }
         ensures exact { IsOkAnd result (λ n. (n ≡ min (length buf.old) (length self.old))
             × (buf.new ≡ take n self.old ++ drop n buf.old)
             × (self.new ≡ drop n self.old)) }

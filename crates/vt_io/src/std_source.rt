@@ -1,4 +1,4 @@
-ghost use Rattle.std.specs.Prelude.{◌≡◌, ◌≤◌, IfSome, MatchResult, length};
+ghost use Rattle.std.specs.Prelude.{◌≡◌, ◌≤◌, IfSome, MatchResult, length, true};
 ghost use Rattle.vt_io.specs.Faults.{one_more};
 ghost use Rattle.vt_io.specs.Stream.{IsRead, unknown_stream};
 
@@ -47,8 +47,10 @@ impl<R> StdSource<R> {
 impl<R: Read> Source for StdSource<R> {
     ghost stream = { unknown_stream };
 
+    ghost steady = { true };
+
     fn read(&mut self, buf: &mut [u8]) -> Result<usize, Failed>
-        ensures read { IsRead (unknown_stream self.old) (unknown_stream self.new) buf.old buf.new result }
+        ensures read { IsRead true (unknown_stream self.old) (unknown_stream self.new) buf.old buf.new result }
         ensures count { MatchResult result
             (λ _. self.new ≡ self.old)
             (λ _. self.new ≡ one_more self.old) }

@@ -12,7 +12,8 @@ abbrev pub Adds : {T E : Type 0} → List ℕ → Text → Text → Result T E �
 Adds piece old new (Ok done) = new.bytes ≡ old.bytes ++ piece
 Adds piece old new (Err e) = new ≡ old
 
--- the piece is added; if memory runs out, the text begins with the bytes that it had
+-- the piece is added; if memory runs out, the text begins with the bytes that it had. It is for texts of the crate's
+-- own: a text of a caller is unchanged then
 abbrev pub AddsPart : {T E : Type 0} → List ℕ → Text → Text → Result T E → Type 0
 AddsPart piece old new (Ok done) = new.bytes ≡ old.bytes ++ piece
 AddsPart piece old new (Err e) = Begins old.bytes new.bytes

@@ -97,9 +97,9 @@ fn add_entry(alloc: Global, text: &mut Bytes, version: u8, entry: &Entry) -> Res
 {
     add_caller(alloc, text, entry.caller, version)?;
     add_next(alloc, text, u64::from(entry.seq))?;
-    add_event(alloc, text, &entry.event)?;
+    add_event_words(alloc, text, &entry.event)?;
     add(alloc, text, b" =")?;
-    add_reply(alloc, text, &entry.reply)?;
+    add_reply_words(alloc, text, &entry.reply)?;
     add_end(alloc, text)?;
     Ok(())
 }
@@ -125,8 +125,19 @@ fn add_tail(alloc: Global, text: &mut Bytes, end: &Tail) -> Result<(), NoMemory>
     }
 }
 
-/// Adds the words of a call, with a blank before each. They can be read again.
+/// Adds the words of a call, with a blank before each. They can be read again. They are made as a text of
+/// their own first, so that `text` and its room are unchanged if memory runs out.
 pub fn add_event(alloc: Global, text: &mut Bytes, e: &Event) -> Result<(), NoMemory>
+    ensures adds { Adds (blank_before_each (event_words e.now)) text.old text.new result }
+    ensures fit { OnOk result (IsFit (plain_event e.now)) }
+{
+    let mut words = Bytes::new(alloc);
+    add_event_words(alloc, &mut words, e)?;
+    add(alloc, text, words.as_slice())
+}
+
+// Adds the words of a call, piece by piece: if memory runs out, a part of them may stand in the text.
+fn add_event_words(alloc: Global, text: &mut Bytes, e: &Event) -> Result<(), NoMemory>
     ensures adds { AddsPart (blank_before_each (event_words e.now)) text.old text.new result }
     ensures fit { OnOk result (IsFit (plain_event e.now)) }
 {
@@ -149,8 +160,19 @@ fn add_held(alloc: Global, text: &mut Bytes, held: Option<&[u8]>) -> Result<(), 
     }
 }
 
-/// Adds the words of an answer, with a blank before each. They can be read again.
+/// Adds the words of an answer, with a blank before each. They can be read again. They are made as a text of
+/// their own first, so that `text` and its room are unchanged if memory runs out.
 pub fn add_reply(alloc: Global, text: &mut Bytes, r: &Reply) -> Result<(), NoMemory>
+    ensures adds { Adds (blank_before_each (reply_words r.now)) text.old text.new result }
+    ensures fit { OnOk result (IsFitReply (plain_reply r.now)) }
+{
+    let mut words = Bytes::new(alloc);
+    add_reply_words(alloc, &mut words, r)?;
+    add(alloc, text, words.as_slice())
+}
+
+// Adds the words of an answer, piece by piece: if memory runs out, a part of them may stand in the text.
+fn add_reply_words(alloc: Global, text: &mut Bytes, r: &Reply) -> Result<(), NoMemory>
     ensures adds { AddsPart (blank_before_each (reply_words r.now)) text.old text.new result }
     ensures fit { OnOk result (IsFitReply (plain_reply r.now)) }
 {

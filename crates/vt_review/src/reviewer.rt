@@ -48,11 +48,14 @@ impl<'a, F: Listener> Reviewer<'a, F> {
 }
 
 impl<F: Listener> Witness for Reviewer<'_, F> {
-    ghost use Rattle.std.specs.Prelude.{◌≡◌};
+    ghost use Rattle.std.specs.Prelude.{◌≡◌, ⊤};
     ghost use Rattle.vt_review.specs.Reviews.{HasReviewed};
 
     ghost saw = { λ first start entries now. (now.ears.now ≡ first.ears.now)
         × HasReviewed now.ears.now start entries now.behind now.text.bytes };
+
+    // A reviewer is dropped if memory runs out.
+    ghost saw_part = { λ first start entries next now. ⊤ };
 
     fn see(
         &mut self,

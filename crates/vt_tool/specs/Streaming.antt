@@ -1,5 +1,5 @@
 -- The drawing of a source on a screen: docs/PROGRAM.md, "Order".
-use Rattle.std.specs.Prelude.{◌≡◌, ◌↔◌, ℕ, ◌<◌, ◌≤◌, List, length, take, Result, Ok, Err, Some}
+use Rattle.std.specs.Prelude.{◌≡◌, ◌↔◌, ℕ, Bool, IsTrue, ◌<◌, ◌≤◌, List, length, take, Result, Ok, Err, Some}
 use Rattle.vt_io.specs.Faults.{Rose}
 use Rattle.vt_io.specs.Stream.{Stream}
 use Rattle.vt_screen.specs.Run.{after, start}
@@ -38,11 +38,16 @@ EndsStreaming src src' emu emu' End = DrawsAll src src' emu emu'
 EndsStreaming src src' emu emu' Fault = DrawsToFault src src' emu emu'
 EndsStreaming src src' emu emu' TooLong = DrawsToLimit src src' emu emu'
 
--- the source's count of faults: it rose at a fault, and no read failed before another end
-abbrev pub CountsFault : ℕ → ℕ → Streamed → Type 0
-CountsFault before now End = now ≡ before
-CountsFault before now Fault = Rose before now
-CountsFault before now TooLong = now ≡ before
+-- the count of faults of a source after reads that didn't fail: it never falls, and it is unchanged if the source is
+-- steady
+abbrev pub KeepsCount : Bool → ℕ → ℕ → Type 0
+KeepsCount steady before now = (before ≤ now) × (IsTrue steady → now ≡ before)
+
+-- the count of faults of a source, which is steady or isn't: it rose at a fault, and no read failed before another end
+abbrev pub CountsFault : Bool → ℕ → ℕ → Streamed → Type 0
+CountsFault steady before now End = KeepsCount steady before now
+CountsFault steady before now Fault = Rose before now
+CountsFault steady before now TooLong = KeepsCount steady before now
 
 -- if the bytes of the source are known and no read fails, their number determines the end
 abbrev pub EndsByLength : Stream → Stream → Streamed → Type 0

@@ -13,7 +13,7 @@ pub fn screen_stream<S: Source>(src: &mut S, emu: &mut Emu, buf: &mut [u8]) -> S
     requires few { length buf.old ≤ 4_096 }
     ensures ends { EndsStreaming (S.stream src.old) (S.stream src.new) emu.old emu.new result }
     ensures exact { EndsByLength (S.stream src.old) (S.stream src.new) result }
-    ensures count { CountsFault (S.stream src.old).faults (S.stream src.new).faults result }
+    ensures count { CountsFault S.steady (S.stream src.old).faults (S.stream src.new).faults result }
 {
     any_cut();
     let mut left = SCREEN_LIMIT;

@@ -1,5 +1,5 @@
 //! Inputs that come in pieces (docs/PROGRAM.md, "Order").
-ghost use Rattle.std.specs.Prelude.{None};
+ghost use Rattle.std.specs.Prelude.{None, false};
 
 use super::printed::{Printed, blank, words_of};
 use std::alloc::Global;
@@ -8,18 +8,23 @@ use vt_base::NoMemory;
 use vt_io::{Failed, Source};
 use vt_tool::vt_command;
 
-/// A source of so many bytes `a` that come in pieces: a read gives no more than is left of one.
+/// A source of so many bytes `a` that come in pieces: a read gives no more than is left of one. It isn't steady: each
+/// read counts a fault, though none fails, as those of a source that reads ahead may.
 #[derive(Drop)]
 struct Pieces {
     left: usize,
     piece: usize,
     left_of_piece: usize,
+    faults: u64,
 }
 
 impl Source for Pieces {
-    ghost stream = { λ _. record { bytes = None; faults = 0 } };
+    ghost stream = { λ s. record { bytes = None; faults = s.faults } };
+
+    ghost steady = { false };
 
     fn read(&mut self, buf: &mut [u8]) -> Result<usize, Failed> {
+        self.faults = self.faults.saturating_add(1);
         if self.left_of_piece == 0 {
             self.left_of_piece = self.piece;
         }
@@ -37,6 +42,7 @@ fn draw(alloc: Global, words: &[String], bytes: usize, piece: usize, printed: &m
         left: bytes,
         piece,
         left_of_piece: 0,
+        faults: 0,
     };
     let Printed { status, out, err } = printed;
     let ended = vt_command(alloc, words, &mut src, out, err);

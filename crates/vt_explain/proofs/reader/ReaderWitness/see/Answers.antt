@@ -6,8 +6,8 @@ pub read-requires-clause-new : goal.read-requires-clause-new
 read-requires-clause-new c =
     c.requires.seen.fresh c.args.place (omega (arith, c.requires.next.place_is))
 
-pub returns : goal.returns
-returns c = λ first start before was next.
+pub returns-clause-seen : goal.returns-clause-seen
+returns-clause-seen c = λ first start before was next.
     next_read c.traces_tell_news.ensures.news c.traces_tell_news.ensures.moments start before c.args.place
     c.args._entry.now c.args.after.now c.trace.result.now c.args.self.now c.read.new.self was next
     c.trace.ensures.marks c.in_ok-read.ensures

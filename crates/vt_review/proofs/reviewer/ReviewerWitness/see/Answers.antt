@@ -8,8 +8,8 @@ tell_entry-requires g c =
     is_left c.requires.start c.args.self.now.behind c.args.after.now c.requires.before c.args.place
     c.args.entry.now c.requires.seen.1.behind_is c.requires.next
 
-pub returns : goal.returns
-returns g c = λ first start before was next. (
+pub returns-clause-seen : goal.returns-clause-seen
+returns-clause-seen g c = λ first start before was next. (
   was.0,
   reviewed_more c.legal_grows.ensures.replay c.args.self.now.ears.now start before c.args.place c.args.entry.now
       c.args.self.now.behind c.args.after.now c.call.new.self c.args.self.now.text.bytes

@@ -5,7 +5,7 @@ use Rattle.vt_journal.specs.Replies.{IsFitReply}
 use Rattle.vt_journal.proofs.ReplyWords.{always, fit_mode, fit_text}
 use Rattle.vt_journal.specs.Text.{Begins}
 use Rattle.vt_journal.proofs.Texts.{begins_after, begins_more, begins_same}
-use Rattle.vt_journal.proofs.printing.add_reply.Goals as goal
+use Rattle.vt_journal.proofs.printing.add_reply_words.Goals as goal
 
 pub returns-in_ok-add_bytes-in-Text-clause-fit : goal.returns-in_ok-add_bytes-in-Text-clause-fit
 returns-in_ok-add_bytes-in-Text-clause-fit c =

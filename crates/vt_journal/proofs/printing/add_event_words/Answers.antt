@@ -5,7 +5,7 @@ use Rattle.vt_events.specs.Calls.{PartsView}
 use Rattle.vt_journal.proofs.Spellings.{fit_meant}
 use Rattle.vt_journal.specs.Text.{Begins}
 use Rattle.vt_journal.proofs.Texts.{begins_after, begins_more}
-use Rattle.vt_journal.proofs.printing.add_event.Goals as goal
+use Rattle.vt_journal.proofs.printing.add_event_words.Goals as goal
 
 pub returns-clause-fit : goal.returns-clause-fit
 returns-clause-fit c =
