@@ -1,5 +1,7 @@
 //! The door: a caller that finds the lock taken waits here before it draws a ticket. No clause covers
 //! it: docs/library/lock.md has the argument that no caller sleeps there for ever.
+ghost use Rattle.std.specs.Prelude.{◌≡◌, ◌≤◌, true};
+
 use crate::bells::Bells;
 use std::alloc::Global;
 use std::sync::Wait;
@@ -47,9 +49,7 @@ impl Door {
                 self.entered.fetch_add(1, SeqCst);
                 return;
             }
-            if let Some(key) = key {
-                key.wait(rt);
-            }
+            key.wait(rt);
         }
     }
 
@@ -60,7 +60,9 @@ impl Door {
 
     /// Whether a caller that was called in is still on its way so many turns later that the others stand
     /// aside for it.
-    pub(crate) fn is_due(&self, turns: u64) -> bool {
+    pub(crate) fn is_due(&self, turns: u64) -> bool
+        ensures { result ≡ true → 128 ≤ turns }
+    {
         turns >= TURNS && self.called.load(SeqCst) != self.entered.load(SeqCst)
     }
 
