@@ -149,12 +149,13 @@ impl<K: Kept> TurnLock<K> {
             }
             hint::spin_loop();
         }
-        let number = self.door.number();
+        let mut visitor = self.door.visit();
         // If no ticket is out, no other caller needs to come and leave: this one does the call.
         if let Some(served) = self.idle() {
             self.door.call(served);
         }
-        self.door.wait(rt, number);
+        self.door.wait(rt, &mut visitor);
+        visitor.leave();
     }
 
     // Whether a ticket is out, or the callers stand aside for one that was called in.
