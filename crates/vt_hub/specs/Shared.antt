@@ -90,6 +90,6 @@ pub record Waits (p : ℕ) (v w : SharedView) : Type 0 where
 -- processes whose tickets this call ended
 abbrev pub ComesTo : ℕ → ℕ → Event → SharedView → SharedView → Look → Type 0
 ComesTo p seq e v w (look.Done place reply ended) =
-    Enters p seq e v w place reply × AreEnded v.world w.world ended.bits
+    Enters p seq e v w place reply × AreEnded v.world w.world ended.set.bits
 ComesTo p seq e v w (look.Full full) = Stops p e v w full
 ComesTo p seq e v w look.Waits = Waits p v w

@@ -141,7 +141,7 @@ impl<J: Opening> Shared<J> {
         let reply = state.world.step_with(caller, event, spare);
         let _front = state.world.display().get();
         let waits = state.waits.after(&state.world, caller);
-        let ended = state.waits.without(waits);
+        let ended = state.waits.ended(waits);
         state.waits = waits;
         let entry = Entry {
             caller,

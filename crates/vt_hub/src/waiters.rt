@@ -45,6 +45,17 @@ impl Waiters {
         waits
     }
 
+    /// The processes whose tickets ended, if these are those with open tickets before, and `later` those after it.
+    pub(crate) fn ended(self, later: Waiters) -> Ended
+        ensures { (p : ℕ) → has_process result.set.bits p
+            ≡ (has_process self.bits p && not (has_process later.bits p)) }
+    {
+        let set = Waiters {
+            bits: self.bits & !later.bits,
+        };
+        Ended { set }
+    }
+
     // The caller, if it is a process and its ticket is open. A keyboard never waits, and has no bit.
     fn alone(world: &World, caller: CallerNo) -> Waiters
         ensures { (p : ℕ) → IsProcess p → has_process result.bits p ≡ (is_waiting world.now p && p == caller) }
@@ -71,15 +82,6 @@ impl Waiters {
         }
     }
 
-    /// These without those.
-    pub(crate) fn without(self, those: Waiters) -> Waiters
-        ensures { (p : ℕ) → has_process result.bits p ≡ (has_process self.bits p && not (has_process those.bits p)) }
-    {
-        Waiters {
-            bits: self.bits & !those.bits,
-        }
-    }
-
     // These and this process.
     fn with(self, process: CallerNo) -> Waiters
         ensures { (p : ℕ) → has_process result.bits p ≡ (p % 64 == process % 64 || has_process self.bits p) }
@@ -87,6 +89,21 @@ impl Waiters {
         Waiters {
             bits: self.bits | bit(process),
         }
+    }
+}
+
+/// The processes whose tickets a call ended. It isn't `Drop`, so a turn that doesn't wake them is refused.
+pub(crate) struct Ended {
+    set: Waiters,
+}
+
+impl Ended {
+    /// The set of these processes.
+    pub(crate) fn set(self) -> Waiters
+        ensures { result ≡ self.set }
+    {
+        let Ended { set } = self;
+        set
     }
 }
 

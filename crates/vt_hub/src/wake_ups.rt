@@ -1,6 +1,6 @@
 ghost use Rattle.std.specs.Prelude.{◌≡◌, vec_len, IfOk};
 
-use crate::waiters::Waiters;
+use crate::waiters::Ended;
 use crossbeam_utils::sync::{EventCount, Key};
 use std::alloc::Global;
 use vt_base::{CALLERS, CallerNo, NoMemory};
@@ -24,8 +24,9 @@ impl WakeUps {
         self.of(caller).prepare_wait()
     }
 
-    /// Wakes these callers.
-    pub(crate) fn wake(&self, callers: Waiters) {
+    /// Wakes the callers whose tickets were ended.
+    pub(crate) fn wake(&self, ended: Ended) {
+        let callers = ended.set();
         if callers.is_empty() {
             return;
         }

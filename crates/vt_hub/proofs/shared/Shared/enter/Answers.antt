@@ -52,7 +52,7 @@ returns g c =
     let after : WorldState = c.step_with-reply.new.self in
     let old : ℕ = c.deref_mut-state.result.now.waits.bits in
     let new : ℕ = c.after-waits.result.bits in
-    let ended : ℕ = c.without-ended.result.bits in
+    let ended : ℕ = c.ended-ended.result.set.bits in
     let entry : Entry = record {
       caller = c.args.caller;
       seq = c.args.seq;
@@ -82,5 +82,5 @@ returns g c =
         few = search rules;
       },
       subst (λ (x : SharedView). AreEnded x.world after ended) c.self.view_is
-          (ended_are v.world after old new ended stood stand c.without-ended.ensures),
+          (ended_are v.world after old new ended stood stand c.ended-ended.ensures),
     )
