@@ -62,10 +62,10 @@ ROWS = [
 FUNCTIONS = [
     ("crates/turn_lock/src/lock.rt", ["enter", "stand_aside", "is_busy", "idle", "take", "announced"]),
     ("crates/turn_lock/src/held.rt", ["leave"]),
-    ("crates/turn_lock/src/door.rt", ["number", "wait", "since", "is_due", "call"]),
-    ("crates/turn_lock/src/bells.rt", ["announced", "ring"]),
+    ("crates/turn_lock/src/door.rt", ["visit", "wait", "since", "is_due", "call"]),
+    ("crates/turn_lock/src/bells.rt", ["announced", "ring", "bell"]),
     ("crates/vt_hub/src/hub.rt", ["wait_end", "turn"]),
-    ("crates/vt_hub/src/wake_ups.rt", ["prepare_wait", "wake", "wake_all"]),
+    ("crates/vt_hub/src/wake_ups.rt", ["prepare_wait", "wake", "wake_all", "of"]),
 ]
 
 

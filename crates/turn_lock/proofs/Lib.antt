@@ -10,3 +10,4 @@ pub mod Known
 pub mod Looks
 pub mod Steps
 pub mod Closes
+pub mod Doors

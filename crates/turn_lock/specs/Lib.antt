@@ -3,3 +3,5 @@ pub mod Rule
 pub mod Told
 pub mod Views
 pub mod Words
+pub mod Door
+pub mod Visits

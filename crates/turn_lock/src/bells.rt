@@ -1,3 +1,5 @@
+ghost use Rattle.std.specs.Prelude.{◌≡◌, vec_len, IfOk};
+
 use crossbeam_utils::sync::{EventCount, Key};
 use std::alloc::Global;
 use vt_base::NoMemory;
@@ -9,27 +11,37 @@ const BELLS: usize = 128;
 #[derive(Drop)]
 pub(crate) struct Bells {
     each: Vec<EventCount>,
+    ghost all: { vec_len each ≡ 128 },
 }
 
 impl Bells {
     pub(crate) fn hang(alloc: Global) -> Result<Bells, NoMemory> {
-        let mut each = Vec::with_capacity(alloc, BELLS)?;
-        for _ in 0..BELLS {
-            each.push(EventCount::new())?;
-        }
-        Ok(Bells { each })
+        Ok(Bells {
+            each: all_bells(alloc)?,
+        })
     }
 
     /// A wait at the bell of this number, which ends at the next ring.
-    pub(crate) fn announced(&self, number: u64) -> Option<Key<'_>> {
-        let bell = self.each.get((number % BELLS as u64) as usize)?;
-        Some(bell.prepare_wait())
+    pub(crate) fn announced(&self, number: u64) -> Key<'_> {
+        self.bell(number).prepare_wait()
     }
 
     /// Ends every wait at the bell of this number.
     pub(crate) fn ring(&self, number: u64) {
-        if let Some(bell) = self.each.get((number % BELLS as u64) as usize) {
-            bell.notify_all();
-        }
+        self.bell(number).notify_all();
     }
+
+    fn bell(&self, number: u64) -> &EventCount {
+        &self.each[(number % BELLS as u64) as usize]
+    }
+}
+
+fn all_bells(alloc: Global) -> Result<Vec<EventCount>, NoMemory>
+    ensures { IfOk result (λ each. vec_len each ≡ 128) }
+{
+    let mut each = Vec::with_capacity(alloc, BELLS)?;
+    for _bell in 0..BELLS {
+        each.push(EventCount::new())?;
+    }
+    Ok(each)
 }

@@ -1,6 +1,16 @@
-//! The door: a caller that finds the lock taken waits here before it draws a ticket. No clause covers
-//! it: docs/library/lock.md has the argument that no caller sleeps there for ever.
+//! The door: a caller that finds the lock taken waits here before it draws a ticket. The rule of its
+//! counts is proved (`specs/Door.antt`). No clause states that a caller is called in:
+//! docs/library/lock.md has the argument that no caller sleeps there for ever.
+ghost use Rattle.std.specs.Prelude.{◌≡◌, ◌≤◌, true};
+ghost use Rattle.turn_lock.specs.Visits.{HasCome, WaitsAt};
+
 use crate::bells::Bells;
+use crate::counts::{
+    Arrive, CALLED, CAME, CallIn, ComeIn, Counts, DrawNumber, ENTERED, LookForCall, ReadCame,
+    ReadEntered,
+};
+use crate::visitor::Visitor;
+use atomic_table::Table;
 use std::alloc::Global;
 use std::sync::Wait;
 use std::sync::atomic::AtomicU64;
@@ -10,47 +20,64 @@ use vt_base::NoMemory;
 /// How many turns the others have after a caller was called in, until they stand aside for it.
 const TURNS: u64 = 128;
 
-/// Each caller that comes to the door draws a number from `came`. The numbers below `called` were called
-/// in, and `entered` counts those of them that came in.
+/// Each caller that comes to the door draws a number. Callers are called in by their numbers, one at a
+/// time: the next one when the last one has come in.
 #[derive(Drop)]
 pub(crate) struct Door {
-    came: AtomicU64,
-    called: AtomicU64,
-    entered: AtomicU64,
+    pub(crate) counts: Counts,
     /// The ticket that was served when the last caller was called in.
     since: AtomicU64,
     bells: Bells,
+    ghost sized: { counts.shared.table_id.words ≡ 3 },
 }
 
 impl Door {
     pub(crate) fn hang(alloc: Global) -> Result<Door, NoMemory> {
+        let bells = Bells::hang(alloc)?;
+        let (counts, _seat) = Table::of_words(alloc, &[0, 0, 0], &())?;
         Ok(Door {
-            came: AtomicU64::new(0),
-            called: AtomicU64::new(0),
-            entered: AtomicU64::new(0),
+            counts,
             since: AtomicU64::new(0),
-            bells: Bells::hang(alloc)?,
+            bells,
         })
     }
 
-    /// The next number: callers are called in by their numbers, in order.
-    pub(crate) fn number(&self) -> u64 {
-        self.came.fetch_add(1, SeqCst)
+    /// A caller that came to the door, with the next number.
+    pub(crate) fn visit(&self) -> Visitor
+        ensures door { result.seat.table_id ≡ self.now.counts.shared.table_id }
+        ensures waits { WaitsAt result }
+    {
+        let (_, mut seat) = self.counts.shared.load_new_seat::<Arrive>(CAME);
+        let number = self
+            .counts
+            .shared
+            .fetch_add::<DrawNumber>(&mut seat, CAME, 1);
+        Visitor { seat, number }
     }
 
-    /// Waits until this number is called in.
-    pub(crate) fn wait<R: Wait>(&self, rt: &R, number: u64) {
+    /// Waits until this caller is called in, and comes in.
+    pub(crate) fn wait<R: Wait>(&self, rt: &R, visitor: &mut Visitor)
+        requires door { visitor.old.seat.table_id ≡ self.now.counts.shared.table_id }
+        requires waits { WaitsAt visitor.old }
+        ensures { HasCome visitor.new }
+    {
+        let number = visitor.number;
         for _ in rt.forever() {
             // A wait is announced before the look, so the bell can't ring between the two unheard.
             let key = self.bells.announced(number);
-            if self.called.load(SeqCst) > number {
-                self.entered.fetch_add(1, SeqCst);
+            let called = self
+                .counts
+                .shared
+                .load::<LookForCall>(&mut visitor.seat, CALLED);
+            if called > number {
+                self.counts
+                    .shared
+                    .fetch_add::<ComeIn>(&mut visitor.seat, ENTERED, 1);
                 return;
             }
-            if let Some(key) = key {
-                key.wait(rt);
-            }
+            key.wait(rt);
         }
+        unreachable!()
     }
 
     /// The ticket that was served when the last caller was called in.
@@ -60,23 +87,24 @@ impl Door {
 
     /// Whether a caller that was called in is still on its way so many turns later that the others stand
     /// aside for it.
-    pub(crate) fn is_due(&self, turns: u64) -> bool {
-        turns >= TURNS && self.called.load(SeqCst) != self.entered.load(SeqCst)
+    pub(crate) fn is_due(&self, turns: u64) -> bool
+        ensures { result ≡ true → 128 ≤ turns }
+    {
+        let counts = &self.counts.shared;
+        turns >= TURNS && counts.peek(CALLED) != counts.peek(ENTERED)
     }
 
     /// Calls in the caller that came first, unless one that was called in is still on its way. `served` is
     /// the ticket that is served.
     pub(crate) fn call(&self, served: u64) {
-        let called = self.called.load(SeqCst);
-        if called != self.entered.load(SeqCst) || called == self.came.load(SeqCst) {
+        let counts = &self.counts.shared;
+        let called = counts.peek(CALLED);
+        let (entered, mut seat) = counts.load_new_seat::<ReadEntered>(ENTERED);
+        if called != entered || called == counts.load::<ReadCame>(&mut seat, CAME) {
             return;
         }
         let next = called.wrapping_add(1);
-        if self
-            .called
-            .compare_exchange(called, next, SeqCst, SeqCst)
-            .is_ok()
-        {
+        if counts.compare_exchange::<CallIn>(&mut seat, CALLED, called, next) == called {
             self.since.store(served, SeqCst);
             self.bells.ring(called);
         }

@@ -1,9 +1,11 @@
 //! A ticket lock with one history: a caller that enters sees all entries that were published, and adds one.
 #![tactic(auto)]
 
+mod at_door;
 mod atomic_steps;
 mod bells;
 mod board;
+mod counts;
 mod door;
 mod entry;
 mod held;
@@ -15,6 +17,7 @@ mod seal;
 #[cfg(test)]
 mod tests;
 mod view;
+mod visitor;
 
 pub use entry::Entry;
 pub use held::Held;

@@ -124,7 +124,7 @@ impl<K: Kept> TurnLock<K> {
             ≡ with_turn ticket (K.entries (value_of result)) (K.seal (value_of result)) (view p.old)) }
         ensures finds { FindsHistory K.before (K.entries (value_of result)) (K.seal (value_of result)) (view p.old) }
     {
-        self.stand_aside(rt);
+        self.stand_aside(rt, p);
         let ticket = self
             .board
             .shared
@@ -137,20 +137,25 @@ impl<K: Kept> TurnLock<K> {
         }
     }
 
-    // Looks whether the lock is free, and waits at the door if it isn't.
-    fn stand_aside<R: Wait>(&self, rt: &R) {
+    // Looks whether the lock is free, and waits at the door if it isn't. The pass has no ticket yet: nobody waits at
+    // the door with one.
+    fn stand_aside<R: Wait>(&self, rt: &R, p: &Pass<K>)
+        requires { RestsIn self.now p.now }
+    {
+        let _ = p;
         for _ in 0..LOOKS {
             if !self.is_busy() {
                 return;
             }
             hint::spin_loop();
         }
-        let number = self.door.number();
+        let mut visitor = self.door.visit();
         // If no ticket is out, no other caller needs to come and leave: this one does the call.
         if let Some(served) = self.idle() {
             self.door.call(served);
         }
-        self.door.wait(rt, number);
+        self.door.wait(rt, &mut visitor);
+        visitor.leave();
     }
 
     // Whether a ticket is out, or the callers stand aside for one that was called in.
@@ -208,7 +213,7 @@ impl<K: Kept> TurnLock<K> {
         if looks < LOOKS {
             return None;
         }
-        self.bells.announced(ticket)
+        Some(self.bells.announced(ticket))
     }
 
     /// Reads the word of the history without waiting.

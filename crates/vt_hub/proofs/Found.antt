@@ -279,6 +279,8 @@ module _ (start : WorldState) (most : Limits) (number seq : ℕ) (v : View Entry
     met = unmet waits.met;
     goes_on = left.stop_is;
     waits = ap awaits made ∙ found.sound.tickets number waits.waits;
+    still = ap (λ (l : List Entry). is_waiting (replay start l) number) left.seen_is
+        ∙ ap (λ (x : WorldState). is_waiting x number) (sym found.sound.replayed) ∙ waits.waits;
   }
 
   -- the result of its turn, with the views of the lock at its turn, after it published the entry, and

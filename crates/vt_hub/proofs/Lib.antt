@@ -6,3 +6,4 @@ pub mod Between
 pub mod Whole
 pub mod Opens
 pub mod Ready
+mod Bits

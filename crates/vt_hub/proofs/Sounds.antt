@@ -1,5 +1,6 @@
 -- The value under the lock stays sound when a call is entered.
-use Rattle.std.proofs.Common.{◌≡◌, ◌≢◌, ⊎_elim, ℕ, true, false, ◌==◌, List, [], ◌∷◌, ◌++◌, length, Option, Some, None, unwrap_or, sym, ap, ◌∙◌, subst, ◌<◌}
+use Rattle.std.proofs.Common.{◌≡◌, ◌≢◌, ⊎_elim, ℕ, Bool, true, false, ◌==◌, ◌&&◌, ◌||◌, not, refl, List, [], ◌∷◌, ◌++◌, length, Option, Some, None, unwrap_or, sym, ap, ◌∙◌, subst, ◌<◌}
+use Rattle.std.proofs.lemmas.Bool.{eq-eqb, or_left, or_right}
 use Rattle.std.proofs.lemmas.List.{append-nil}
 use Rattle.std.proofs.lemmas.List.Sums.{length-filter}
 use Rattle.std.specs.List.{count_by}
@@ -11,6 +12,7 @@ use Rattle.vt_events.specs.declared.reply.Reply.{Reply}
 use Rattle.vt_events.specs.declared.reply.Reply.TheVariants as reply
 use Rattle.vt_hub.specs.Histories.{IsFree, awaits, made_by}
 use Rattle.vt_hub.specs.Shared.{IsSound, IsStop, SharedView}
+use Rattle.vt_hub.specs.Waiters.{AreEnded, AreOpen, IsProcess, has_process}
 use Rattle.vt_hub.proofs.Lists.{each_more, made_other, made_own, plain_waits, waits_more}
 use Rattle.turn_lock.specs.declared.seal.Seal.{Seal}
 use Rattle.vt_journal.specs.declared.full.Full.{Full}
@@ -19,6 +21,29 @@ use Rattle.vt_world.specs.History.{IsLegal, IsNext, LegalGrows, ReplayGrows, rep
 use Rattle.vt_world.specs.State.{WorldState, is_waiting}
 use Rattle.vt_world.specs.Step.{HasOutcome, Outcome, step}
 use Rattle.vt_world.specs.StepLaws.{SizesStay, TicketsAreCalled}
+
+-- the tickets that a call ended, from those that are open before it and after it
+pub ended_are : (before after : WorldState) (old new ended : ℕ) → AreOpen before old → AreOpen after new
+    → ((p : ℕ) → has_process ended p ≡ (has_process old p && not (has_process new p))) → AreEnded before after ended
+ended_are before after old new ended first second is p process =
+    is p ∙ (λ i. first p process i && not (second p process i))
+
+-- the tickets that are open after a call of caller p, from those that are open before it
+pub open_after : TicketsAreCalled → (v w : WorldState) (p : ℕ) (e : Event) (r : Reply) → HasOutcome (step v p e) w r
+    → (old new : ℕ) → AreOpen v old
+    → ((q : ℕ) → IsProcess q → has_process new q ≡ (is_waiting w q && (q == p || has_process old q))) → AreOpen w new
+open_after called v w p e r gives old new before_is is q process =
+    is q process
+    ∙ both (is_waiting w q) (q == p || has_process old q) (λ opened.
+    let world : (step v p e).world ≡ w = ap (λ (o : Outcome). o.world) gives in
+    ⊎_elim
+    (λ (before : is_waiting v q ≡ true). or_right (q == p) (has_process old q) (before_is q process ∙ before))
+    (λ now. or_left (q == p) (has_process old q) (eq-eqb q p (sym now.0)))
+    (called v p e q (ap (λ (x : WorldState). is_waiting x q) world ∙ opened)))
+  where
+    both : (b x : Bool) → (b ≡ true → x ≡ true) → (b && x) ≡ b
+    both true x h = h refl
+    both false x h = refl
 
 -- the entry is that of the call e of caller p, and so are its answer and its number
 pub record IsEntryOf (p seq : ℕ) (e : Event) (r : Reply) (entry : Entry) : Type 0 where
@@ -73,8 +98,9 @@ module _ (start : WorldState) (most : Limits) (v w : SharedView) (p seq : ℕ) (
       → is_waiting v.world p ≡ false → seq ≡ length (made_by p v.log.entries)
       → w.log.entries ≡ v.log.entries ++ entry ∷ [] → w.log.limits ≡ v.log.limits
       → w.stop ≡ None → 0 < w.world.display.front → w.world.display.front < 64
+      → ((q : ℕ) → IsProcess q → has_process w.waits q ≡ (is_waiting w.world q && (q == p || has_process v.waits q)))
       → IsSound start most w
-  enters grows grown sizes called free counted more limits goes_on low high =
+  enters grows grown sizes called free counted more limits goes_on low high opened =
       let es : List Entry = v.log.entries in record {
         legal = subst (IsLegal start) (sym more)
             (grows start es entry sound.legal (next counted));
@@ -94,8 +120,9 @@ module _ (start : WorldState) (most : Limits) (v w : SharedView) (p seq : ℕ) (
         shown_low = low;
         shown_high = high;
         lawful = sound.lawful;
-        tickets = λ q opened. ap (λ (l : List Entry). awaits (made_by q l)) more
-            ∙ waits called free q opened;
+        tickets = λ q waiting. ap (λ (l : List Entry). awaits (made_by q l)) more
+            ∙ waits called free q waiting;
+        waits = open_after called v.world w.world p e r gives v.waits w.waits sound.waits opened;
         stops = λ z is. let bad : None ≡ Some z = sym goes_on ∙ is in absurd cc;
       }
 
@@ -115,6 +142,7 @@ sound_stopped start most v stop sound is = record {
   shown_high = sound.shown_high;
   lawful = sound.lawful;
   tickets = sound.tickets;
+  waits = sound.waits;
   stops = λ z same. subst (IsStop most v.world v.log.entries)
       (ap (λ (o : Option (Seal Full)). unwrap_or o stop) same) is;
 }

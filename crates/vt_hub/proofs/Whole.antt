@@ -1,8 +1,9 @@
 -- The result of closing a hub, from that of closing the lock.
-use Rattle.std.proofs.Common.{◌≡◌, ⊎_elim, ℕ, zero, suc, List, [], ◌∷◌, map, Option, Some, None, refl, sym, ap, ◌∙◌, subst, get_or}
+use Rattle.std.proofs.Common.{◌≡◌, ⊎_elim, ℕ, zero, suc, true, cond, arith, List, [], ◌∷◌, map, Option, Some, None, refl, sym, ap, ◌∙◌, subst, get_or}
 use Rattle.std.proofs.lemmas.List.Elements.{All-map}
+use Rattle.std.proofs.lemmas.List.Sums.{sum_by-cons}
 use Rattle.std.proofs.lemmas.Option.{get_or_from_slice_get, slice_get_within}
-use Rattle.std.specs.List.{All}
+use Rattle.std.specs.List.{All, count_by}
 use Rattle.std.specs.Prelude.{option_map, slice_get, slice_index_or}
 use mathlib.Core.Option.{some, some-injective, some-ne-none}
 use lib.ListN.{get_elem?}
@@ -20,8 +21,9 @@ use Rattle.vt_hub.specs.Histories.{BeginsWith}
 use Rattle.vt_hub.specs.Places.{joined_by, kept_by}
 use Rattle.vt_hub.specs.Shared.{IsSound, IsStop, SharedView}
 use Rattle.vt_hub.specs.Carrying.{Carried, display_of, plain, carried_entries}
-use Rattle.vt_hub.specs.Views.{PassView, is_made, stand_at}
+use Rattle.vt_hub.specs.Views.{PassView, is_home, is_made, is_out, stand_at}
 use Rattle.vt_hub.specs.declared.pass_place.PassPlace.{PassPlace}
+use Rattle.vt_hub.specs.declared.pass_place.PassPlace.TheVariants.{Unmade, Out, Home}
 use Rattle.vt_hub.proofs.Carried.{first_display, made_carried_entries, plain_more, plain-carried_entries, read_carried_entries}
 use Rattle.vt_journal.specs.Log.{Logged}
 use Rattle.vt_journal.specs.Room.{IsWithin, full_at, has_room}
@@ -31,6 +33,22 @@ use Rattle.vt_world.specs.Laws.{ScreensAreTapes}
 use Rattle.vt_world.specs.State.{WorldState, is_waiting}
 use Rattle.vt_world.specs.Tapes.{screen_of, tape_of}
 use Rattle.vt_world.specs.Terminals.{machine_of, terminal_at}
+
+-- if no pass is out, each that was made was joined
+pub all_home : (stands : List PassPlace) → count_by is_out stands ≡ 0 → (n : ℕ)
+    → is_made (stand_at stands n) ≡ true → is_home (stand_at stands n) ≡ true
+all_home [] none n made = made
+all_home (x ∷ xs) none zero made = first x none made
+  where
+    first : (y : PassPlace) → count_by is_out (y ∷ xs) ≡ 0 → is_made y ≡ true → is_home y ≡ true
+    first Unmade no_one is = is
+    first Out no_one is =
+        let more = sum_by-cons (λ z. cond (is_out z) 1 0) Out xs in
+        absurd (let z : ⊥ = omega (arith, more, no_one) in z)
+    first Home no_one is = refl
+all_home (x ∷ xs) none (suc n) made =
+    let more = sum_by-cons (λ z. cond (is_out z) 1 0) x xs in
+    all_home xs (let z : count_by is_out xs ≡ 0 = omega (arith, more, none) in z) n made
 
 module _ {A B : Type 0} where
   -- an element's image stands at its place

@@ -87,6 +87,8 @@ pub record Waited (start : WorldState) (v w : PassView) : Type 0 where
   pub met : v.stop ≡ None
   pub goes_on : w.stop ≡ None
   pub waits : awaits v.mine ≡ true
+  -- the ticket is open in the history that the pass has seen
+  pub still : is_waiting (replay start w.seen) v.number ≡ true
 
 -- the result of one look of the pass v with the call e: no answer while its caller's ticket is open
 abbrev pub Turns : WorldState → Limits → Event → PassView → PassView → Option Answer → Type 0

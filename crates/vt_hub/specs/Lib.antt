@@ -6,3 +6,4 @@ pub mod Ready
 pub mod Shared
 pub mod Carrying
 pub mod Views
+pub mod Waiters

@@ -7,9 +7,10 @@ use Rattle.vt_events.specs.declared.entry.Entry.{Entry}
 use Rattle.vt_events.specs.declared.event.Event.{Event}
 use Rattle.vt_events.specs.declared.reply.Reply.{Reply}
 use Rattle.vt_hub.specs.Histories.{IsFree, awaits, made_by}
-use Rattle.vt_hub.specs.declared.answer.Answer.{Answer}
-use Rattle.vt_hub.specs.declared.answer.Answer.TheVariants as answer
+use Rattle.vt_hub.specs.declared.look.Look.{Look}
+use Rattle.vt_hub.specs.declared.look.Look.TheVariants as look
 use Rattle.vt_hub.specs.declared.state.State.{State}
+use Rattle.vt_hub.specs.Waiters.{AreEnded, AreOpen}
 use Rattle.vt_journal.specs.Log.{Logged}
 use Rattle.vt_journal.specs.Room.{full_at, has_room}
 use Rattle.vt_journal.specs.declared.full.Full.{Full}
@@ -18,15 +19,16 @@ use Rattle.vt_world.specs.History.{IsLegal, replay}
 use Rattle.vt_world.specs.Laws.{DisplaysAreLawfulFrom}
 use Rattle.vt_world.specs.State.{WorldState, is_waiting}
 
--- the world, the log, and where the hub stopped
+-- the world, the log, where the hub stopped, and the set of the processes whose tickets are open
 pub record SharedView : Type 0 where
   pub world : WorldState
   pub log : Logged
   pub stop : Option (Seal Full)
+  pub waits : ℕ
 
 -- the state under the lock, as contracts see it
 abbrev pub shared_view : State → SharedView
-shared_view s = record { world = s.world; log = s.log; stop = s.stop }
+shared_view s = record { world = s.world; log = s.log; stop = s.stop; waits = s.waits.bits }
 
 -- a stop has the numbers of this history, its charge finds no room, and its caller has no open ticket
 pub record IsStop (most : Limits) (w : WorldState) (history : List Entry) (stop : Seal Full) : Type 0 where
@@ -34,7 +36,8 @@ pub record IsStop (most : Limits) (w : WorldState) (history : List Entry) (stop 
   pub no_room : has_room most history stop.what.charge ≡ false
   pub goes : is_waiting w stop.by ≡ false
 
--- the log is legal from the world that was opened, and within these limits; the world is its replay
+-- the log is legal from the world that was opened, and within these limits; the world is its replay; the set
+-- is that of the processes whose tickets are open
 pub record IsSound (start : WorldState) (most : Limits) (v : SharedView) : Type 0 where
   pub legal : IsLegal start v.log.entries
   pub replayed : v.world ≡ replay start v.log.entries
@@ -50,6 +53,7 @@ pub record IsSound (start : WorldState) (most : Limits) (v : SharedView) : Type 
   pub lawful : DisplaysAreLawfulFrom start
   -- a caller with an open ticket was answered "wait" last
   pub tickets : (p : ℕ) → is_waiting v.world p ≡ true → awaits (made_by p v.log.entries) ≡ true
+  pub waits : AreOpen v.world v.waits
   pub stops : (z : Seal Full) → v.stop ≡ Some z → IsStop most v.world v.log.entries z
 
 -- the call e of caller p was entered as its entry of this number, and answered r
@@ -82,8 +86,10 @@ pub record Waits (p : ℕ) (v w : SharedView) : Type 0 where
   pub met : v.stop ≡ None
   pub waits : is_waiting v.world p ≡ true
 
--- the result of a look of caller p with the call e: no answer while its ticket is open
-abbrev pub ComesTo : ℕ → ℕ → Event → SharedView → SharedView → Option Answer → Type 0
-ComesTo p seq e v w (Some (answer.Done place reply)) = Enters p seq e v w place reply
-ComesTo p seq e v w (Some (answer.Full full)) = Stops p e v w full
-ComesTo p seq e v w None = Waits p v w
+-- the result of a look of caller p with the call e. With the answer of a call that was entered come the
+-- processes whose tickets this call ended
+abbrev pub ComesTo : ℕ → ℕ → Event → SharedView → SharedView → Look → Type 0
+ComesTo p seq e v w (look.Done place reply ended) =
+    Enters p seq e v w place reply × AreEnded v.world w.world ended.set.bits
+ComesTo p seq e v w (look.Full full) = Stops p e v w full
+ComesTo p seq e v w look.Waits = Waits p v w

@@ -12,6 +12,7 @@ ghost use Rattle.vt_world.specs.State.{is_waiting};
 ghost use Rattle.vt_world.specs.Refusals.{ends_wait};
 
 use crate::answer::Answer;
+use crate::look::Look;
 use crate::opening::Opening;
 use crate::pass::Pass;
 use crate::pass_place::PassPlace;
@@ -168,11 +169,7 @@ impl<J: Opening> Hub<J> {
             match self.turn(rt, p, &mut event, &mut none) {
                 Some(Answer::Done { at, reply }) => return Answer::Done { at, reply },
                 Some(Answer::Full(full)) => return Answer::Full(full),
-                None => {
-                    if let Some(key) = key {
-                        key.wait(rt);
-                    }
-                }
+                None => key.wait(rt),
             }
         }
         unreachable!()
@@ -197,23 +194,22 @@ impl<J: Opening> Hub<J> {
         let mut held = self.lock.enter(rt, &mut p.place);
         let shared = held.value();
         shared.sound();
-        let answer = shared.call(number, seq, event, spare);
+        let look = shared.call(number, seq, event, spare);
         shared.sound();
-        let ended = shared.ended();
-        match answer {
-            Some(Answer::Done { at, reply }) => {
+        match look {
+            Look::Done { at, reply, ended } => {
                 held.publish();
                 held.leave();
                 self.wake_ups.wake(ended);
                 p.seq = seq + 1;
                 Some(Answer::Done { at, reply })
             }
-            Some(Answer::Full(full)) => {
+            Look::Full(full) => {
                 held.leave();
                 self.wake_ups.wake_all();
                 Some(Answer::Full(full))
             }
-            None => {
+            Look::Waits => {
                 held.leave();
                 None
             }

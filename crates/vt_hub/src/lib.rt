@@ -4,6 +4,7 @@
 mod answer;
 mod hub;
 mod kept_impl;
+mod look;
 mod opening;
 mod pass;
 mod pass_place;

@@ -6,7 +6,7 @@ ghost use Rattle.vt_journal.specs.Log.{HasRoom};
 ghost use Rattle.vt_world.specs.Spare.{Fits};
 ghost use Rattle.vt_world.specs.State.{is_waiting};
 
-use crate::answer::Answer;
+use crate::look::Look;
 use crate::opening::Opening;
 use crate::state::State;
 use crate::waiters::Waiters;
@@ -57,7 +57,6 @@ impl<J: Opening> Shared<J> {
             log,
             stop: None,
             waits: Waiters::none(),
-            ended: Waiters::none(),
         };
         Ok(Shared {
             state: Box::new(alloc, state)?,
@@ -87,7 +86,7 @@ impl<J: Opening> Shared<J> {
         seq: u32,
         event: &mut Event,
         spare: &mut Spare,
-    ) -> Option<Answer>
+    ) -> Look
         requires fits { Fits J.start.rows J.start.cols event.old spare.old }
         requires number { seq ≡ length (made_by caller self.old.log.entries) }
         ensures { ComesTo caller seq event.old self.old self.new result }
@@ -95,10 +94,10 @@ impl<J: Opening> Shared<J> {
         self.sound();
         let state = &*self.state;
         if let Some(stop) = &state.stop {
-            return Some(Answer::Full(stop.what));
+            return Look::Full(stop.what);
         }
         if state.world.waiting(caller) {
-            return None;
+            return Look::Waits;
         }
         let charge = charge(event);
         if !state.log.room(charge) {
@@ -111,9 +110,9 @@ impl<J: Opening> Shared<J> {
                 by: u32::from(caller.get()),
                 what: full,
             });
-            return Some(Answer::Full(full));
+            return Look::Full(full);
         }
-        Some(self.enter(caller, seq, event, charge, spare))
+        self.enter(caller, seq, event, charge, spare)
     }
 
     // Enters the call, which has that charge.
@@ -124,14 +123,14 @@ impl<J: Opening> Shared<J> {
         event: &mut Event,
         charge: u32,
         spare: &mut Spare,
-    ) -> Answer
+    ) -> Look
         requires fits { Fits self.old.world.rows self.old.world.cols event.old spare.old }
         requires number { seq ≡ length (made_by caller self.old.log.entries) }
         requires open { self.old.stop ≡ None }
         requires free { is_waiting self.old.world caller ≡ false }
         requires charge { charge ≡ charge_of event.old }
         requires room { HasRoom self.old.log charge }
-        ensures { ComesTo caller seq event.old self.old self.new (Some result) }
+        ensures { ComesTo caller seq event.old self.old self.new result }
     {
         legal_grows();
         sizes_stay();
@@ -142,7 +141,7 @@ impl<J: Opening> Shared<J> {
         let reply = state.world.step_with(caller, event, spare);
         let _front = state.world.display().get();
         let waits = state.waits.after(&state.world, caller);
-        state.ended = state.waits.without(waits);
+        let ended = state.waits.ended(waits);
         state.waits = waits;
         let entry = Entry {
             caller,
@@ -151,12 +150,7 @@ impl<J: Opening> Shared<J> {
             reply: spare.copy(&reply),
         };
         state.log.push_counted(entry, charge);
-        Answer::Done { at, reply }
-    }
-
-    /// The callers whose tickets the last call ended.
-    pub(crate) fn ended(&self) -> Waiters {
-        self.state.ended
+        Look::Done { at, reply, ended }
     }
 
     /// The world, the log, and where the hub stopped.
@@ -170,7 +164,6 @@ impl<J: Opening> Shared<J> {
             log,
             stop,
             waits: _,
-            ended: _,
         } = Box::into_inner(self.state);
         let stop = match stop {
             Some(stop) => Some(stop.what),

@@ -9,7 +9,6 @@ pub(crate) struct State {
     pub(crate) world: World,
     pub(crate) log: Log,
     pub(crate) stop: Option<Seal<Full>>,
-    // The callers with open tickets after the last call, and those whose tickets it ended.
+    // The processes whose tickets are open.
     pub(crate) waits: Waiters,
-    pub(crate) ended: Waiters,
 }

@@ -1,4 +1,6 @@
-use crate::waiters::Waiters;
+ghost use Rattle.std.specs.Prelude.{◌≡◌, vec_len, IfOk};
+
+use crate::waiters::Ended;
 use crossbeam_utils::sync::{EventCount, Key};
 use std::alloc::Global;
 use vt_base::{CALLERS, CallerNo, NoMemory};
@@ -7,32 +9,30 @@ use vt_base::{CALLERS, CallerNo, NoMemory};
 #[derive(Drop)]
 pub(crate) struct WakeUps {
     each: Vec<EventCount>,
+    ghost all: { vec_len each ≡ 68 },
 }
 
 impl WakeUps {
     pub(crate) fn new(alloc: Global) -> Result<WakeUps, NoMemory> {
-        let mut each = Vec::with_capacity(alloc, CALLERS)?;
-        for _ in 0..CALLERS {
-            each.push(EventCount::new())?;
-        }
-        Ok(WakeUps { each })
+        Ok(WakeUps {
+            each: all_wake_ups(alloc)?,
+        })
     }
 
     /// A wait of this caller, which ends at its next wake-up from now on.
-    pub(crate) fn prepare_wait(&self, caller: CallerNo) -> Option<Key<'_>> {
-        Some(self.each.get(usize::from(caller.get()))?.prepare_wait())
+    pub(crate) fn prepare_wait(&self, caller: CallerNo) -> Key<'_> {
+        self.of(caller).prepare_wait()
     }
 
-    /// Wakes these callers.
-    pub(crate) fn wake(&self, callers: Waiters) {
+    /// Wakes the callers whose tickets were ended.
+    pub(crate) fn wake(&self, ended: Ended) {
+        let callers = ended.set();
         if callers.is_empty() {
             return;
         }
         for caller in CallerNo::processes() {
             if callers.has(caller) {
-                if let Some(wake_up) = self.each.get(usize::from(caller.get())) {
-                    wake_up.notify_all();
-                }
+                self.of(caller).notify_all();
             }
         }
     }
@@ -43,4 +43,18 @@ impl WakeUps {
             wake_up.notify_all();
         }
     }
+
+    fn of(&self, caller: CallerNo) -> &EventCount {
+        &self.each[usize::from(caller.get())]
+    }
+}
+
+fn all_wake_ups(alloc: Global) -> Result<Vec<EventCount>, NoMemory>
+    ensures { IfOk result (λ each. vec_len each ≡ 68) }
+{
+    let mut each = Vec::with_capacity(alloc, CALLERS)?;
+    for _caller in 0..CALLERS {
+        each.push(EventCount::new())?;
+    }
+    Ok(each)
 }

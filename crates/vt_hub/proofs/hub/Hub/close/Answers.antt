@@ -1,17 +1,26 @@
-use Rattle.std.proofs.Common.{ℕ, ◌≤◌, List, length, subst}
+use Rattle.std.proofs.Common.{ℕ, ◌≤◌, List, length, subst, sym, ap, ◌∙◌}
+use Rattle.std.specs.List.{count_by}
 use Rattle.turn_lock.specs.Words.{lock_named, view}
 use Rattle.turn_lock.specs.declared.view.View.{View}
 use Rattle.atomic_table.specs.Seated.{TableId}
 use Rattle.vt_events.specs.declared.entry.Entry.{Entry}
 use Rattle.vt_hub.specs.Closed.{IsWhole}
 use Rattle.vt_hub.specs.Shared.{SharedView}
-use Rattle.vt_hub.specs.Views.{StewardView}
-use Rattle.vt_hub.proofs.Whole.{whole}
+use Rattle.vt_hub.specs.Views.{StewardView, is_out}
+use Rattle.vt_hub.specs.declared.pass_place.PassPlace.{PassPlace}
+use Rattle.vt_hub.proofs.Whole.{all_home, whole}
 use Rattle.vt_journal.specs.Log.{Logged}
 use Rattle.vt_journal.specs.Room.{IsWithin}
 use Rattle.vt_journal.specs.declared.full.Full.{Full}
 use Rattle.vt_journal.specs.declared.limits.Limits.{Limits}
 use Rattle.vt_hub.proofs.hub.Hub.close.Goals as goal
+
+pub close-shared-requires-clause-all : goal.close-shared-requires-clause-all
+close-shared-requires-clause-all g c = λ n made.
+    let stands : List PassPlace = c.s.inside.stands in
+    c.s.invariant.home n
+    ∙ all_home stands (ap (λ (k : StewardView). count_by is_out k.stands) c.s.view_is ∙ c.requires.all) n
+    (sym (c.s.invariant.made n) ∙ made)
 
 pub returns : goal.returns
 returns g c =

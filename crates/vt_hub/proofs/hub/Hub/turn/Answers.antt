@@ -1,19 +1,18 @@
-use Rattle.std.proofs.Common.{◌≡◌, Some, arith, length, sym, ap, subst, ◌∙◌}
+use Rattle.std.proofs.Common.{◌≡◌, arith, length, sym, ap, ◌∙◌}
 use Rattle.turn_lock.specs.Views.{without_turn}
 use Rattle.turn_lock.specs.Words.{lock_named, name, pass_of, view}
 use Rattle.turn_lock.specs.declared.view.View.{View}
 use Rattle.atomic_table.specs.Seated.{TableId}
 use Rattle.vt_events.specs.declared.entry.Entry.{Entry}
 use Rattle.vt_journal.specs.declared.full.Full.{Full}
-use Rattle.vt_hub.specs.Shared.{ComesTo, Enters, SharedView, Stops}
-use Rattle.vt_hub.specs.declared.answer.Answer.{Answer}
+use Rattle.vt_hub.specs.Shared.{Enters, SharedView, Stops}
 use Rattle.vt_hub.specs.Views.{PassView}
 use Rattle.vt_hub.proofs.Carried.{length-carried_entries}
 use Rattle.vt_hub.proofs.Found.{Found, adds, count, counted_after, done, few_made, found_from, full, role_after, waits}
 use Rattle.vt_hub.proofs.hub.Hub.turn.Goals as goal
 
-pub call-answer-requires-clause-number : goal.call-answer-requires-clause-number
-call-answer-requires-clause-number g c =
+pub call-look-requires-clause-number : goal.call-look-requires-clause-number
+call-look-requires-clause-number g c =
     count _ _ _ _ _ _ _
     (found_from _ _ _ _ _ c.enter-held.result.value c.value-shared.result.now _ c.value-shared.ensures.value
     c.sound.ensures c.p.invariant.named c.p.invariant.counted c.enter-held.ensures.finds c.enter-held.ensures.view)
@@ -28,12 +27,11 @@ publish-requires-clause-adds g c =
     let found : Found start most number seq before s held =
     found_from start most number seq before c.enter-held.result.value s held c.value-shared.ensures.value
     c.sound.ensures c.p.invariant.named c.p.invariant.counted c.enter-held.ensures.finds c.enter-held.ensures.view in
-    let after : SharedView = c.call-answer.new.self in
-    let enters : Enters number seq c.args.event.now s after c.in-Some-Done.at c.in-Some-Done.reply =
-    subst (λ (a : Answer). ComesTo number seq c.args.event.now s after (Some a))
-    c.in-Some-Done.field-0-is c.in-Some-Done.ensures in
-    adds start most number seq before s held found after c.args.event.now c.in-Some-Done.at
-    c.in-Some-Done.reply enters c.sound-2.ensures
+    let after : SharedView = c.call-look.new.self in
+    let enters : Enters number seq c.args.event.now s after c.in-Done.at c.in-Done.reply =
+    c.in-Done.ensures.0 in
+    adds start most number seq before s held found after c.args.event.now c.in-Done.at
+    c.in-Done.reply enters c.sound-2.ensures
 
 pub publish-requires-clause-few : goal.publish-requires-clause-few
 publish-requires-clause-few g c =
@@ -41,10 +39,9 @@ publish-requires-clause-few g c =
     let number = c.p.inside.number in let seq = c.p.inside.seq in
     let old : SharedView = c.enter-held.result.value in
     let s : SharedView = c.value-shared.result.now in
-    let after : SharedView = c.call-answer.new.self in
-    let enters : Enters number seq c.args.event.now s after c.in-Some-Done.at c.in-Some-Done.reply =
-    subst (λ (a : Answer). ComesTo number seq c.args.event.now s after (Some a))
-    c.in-Some-Done.field-0-is c.in-Some-Done.ensures in
+    let after : SharedView = c.call-look.new.self in
+    let enters : Enters number seq c.args.event.now s after c.in-Done.at c.in-Done.reply =
+    c.in-Done.ensures.0 in
     let few = enters.few in
     let same = ap (λ (s : SharedView). length s.log.entries) c.value-shared.ensures.value in
     let seen = ap (λ v. length v.seen) c.enter-held.ensures.view.1 in
@@ -57,10 +54,9 @@ overflow_add-p g c =
     let before : View Entry Full = view c.p.inside.place in
     let s : SharedView = c.value-shared.result.now in
     let held : View Entry Full = view (pass_of c.enter-held.result) in
-    let after : SharedView = c.call-answer.new.self in
-    let enters : Enters number seq c.args.event.now s after c.in-Some-Done.at c.in-Some-Done.reply =
-    subst (λ (a : Answer). ComesTo number seq c.args.event.now s after (Some a))
-    c.in-Some-Done.field-0-is c.in-Some-Done.ensures in
+    let after : SharedView = c.call-look.new.self in
+    let enters : Enters number seq c.args.event.now s after c.in-Done.at c.in-Done.reply =
+    c.in-Done.ensures.0 in
     let few = enters.few in
     let counted = count start most number seq before s held
     (found_from start most number seq before c.enter-held.result.value s held c.value-shared.ensures.value
@@ -73,34 +69,33 @@ invariant_of-p g c =
     let number = c.p.inside.number in let seq = c.p.inside.seq in
     let before : View Entry Full = view c.p.inside.place in
     let s : SharedView = c.value-shared.result.now in
-    let after : SharedView = c.call-answer.new.self in
+    let after : SharedView = c.call-look.new.self in
     let held : View Entry Full = view (pass_of c.enter-held.result) in
     let shown : View Entry Full = view (pass_of c.publish.new.self) in
     let found : Found start most number seq before s held =
     found_from start most number seq before c.enter-held.result.value s held c.value-shared.ensures.value
     c.sound.ensures c.p.invariant.named c.p.invariant.counted c.enter-held.ensures.finds c.enter-held.ensures.view in
-    let enters : Enters number seq c.args.event.now s after c.in-Some-Done.at c.in-Some-Done.reply =
-    subst (λ (a : Answer). ComesTo number seq c.args.event.now s after (Some a))
-    c.in-Some-Done.field-0-is c.in-Some-Done.ensures in
+    let enters : Enters number seq c.args.event.now s after c.in-Done.at c.in-Done.reply =
+    c.in-Done.ensures.0 in
     let left : view c.leave.new.self.1.0 ≡ without_turn after.stop shown =
     c.leave.ensures.1 ∙ ap (λ (x : SharedView). without_turn x.stop shown) c.publish.ensures.value in record {
       rests = c.leave.ensures.0.1;
       named = role_after start most number seq before s held found after (view c.leave.new.self.1.0)
-          c.args.event.now c.in-Some-Done.at c.in-Some-Done.reply enters shown
+          c.args.event.now c.in-Done.at c.in-Done.reply enters shown
           c.publish.ensures.view c.publish.ensures.mine left;
       counted = counted_after start most number seq before s held found after (view c.leave.new.self.1.0)
-          c.args.event.now c.in-Some-Done.at c.in-Some-Done.reply enters shown
+          c.args.event.now c.in-Done.at c.in-Done.reply enters shown
           c.publish.ensures.view c.publish.ensures.mine left;
     }
 
-pub returns-in-Some-Done : goal.returns-in-Some-Done
-returns-in-Some-Done g c =
+pub returns-in-Done : goal.returns-in-Done
+returns-in-Done g c =
     let start = g.J.Opening.start in let most = g.J.Opening.limits in
     let number = c.p.inside.number in let seq = c.p.inside.seq in
     let before : View Entry Full = view c.p.inside.place in
     let hub : TableId = lock_named c.p.inside.place in
     let s : SharedView = c.value-shared.result.now in
-    let after : SharedView = c.call-answer.new.self in
+    let after : SharedView = c.call-look.new.self in
     let held : View Entry Full = view (pass_of c.enter-held.result) in
     let shown : View Entry Full = view (pass_of c.publish.new.self) in
     let found : Found start most number seq before s held =
@@ -110,18 +105,17 @@ returns-in-Some-Done g c =
     c.self.view_is ∙ (sym c.requires.own ∙ sym (ap (λ (q : PassView). q.hub) c.p.view_is)) in
     let home : lock_named c.leave.new.self.1.0 ≡ hub =
     c.leave.ensures.0.0 ∙ (ap name c.publish.ensures.lock ∙ (c.enter-held.ensures.lock ∙ own)) in
-    let enters : Enters number seq c.args.event.now s after c.in-Some-Done.at c.in-Some-Done.reply =
-    subst (λ (a : Answer). ComesTo number seq c.args.event.now s after (Some a))
-    c.in-Some-Done.field-0-is c.in-Some-Done.ensures in
+    let enters : Enters number seq c.args.event.now s after c.in-Done.at c.in-Done.reply =
+    c.in-Done.ensures.0 in
     let left : view c.leave.new.self.1.0 ≡ without_turn after.stop shown =
     c.leave.ensures.1 ∙ ap (λ (x : SharedView). without_turn x.stop shown) c.publish.ensures.value in
     done start most number seq before s held found after (view c.leave.new.self.1.0) c.args.event.now
-    c.in-Some-Done.at c.in-Some-Done.reply enters shown c.publish.ensures.view
+    c.in-Done.at c.in-Done.reply enters shown c.publish.ensures.view
     c.publish.ensures.mine left hub c.args.p.now c.p.view_is (lock_named c.leave.new.self.1.0) home
     c.sound-2.ensures
 
-pub returns-in-Some-Full : goal.returns-in-Some-Full
-returns-in-Some-Full g c =
+pub returns-in-Full : goal.returns-in-Full
+returns-in-Full g c =
     let start = g.J.Opening.start in let most = g.J.Opening.limits in
     let number = c.p.inside.number in let seq = c.p.inside.seq in
     let before : View Entry Full = view c.p.inside.place in
@@ -133,18 +127,17 @@ returns-in-Some-Full g c =
     c.sound.ensures c.p.invariant.named c.p.invariant.counted c.enter-held.ensures.finds c.enter-held.ensures.view in
     let own : name c.self.inside.lock ≡ hub =
     c.self.view_is ∙ (sym c.requires.own ∙ sym (ap (λ (q : PassView). q.hub) c.p.view_is)) in
-    let after : SharedView = c.call-answer.new.self in
-    let stops : Stops number c.args.event.now s after c.in-Some-Full.full =
-    subst (λ (a : Answer). ComesTo number seq c.args.event.now s after (Some a))
-    c.in-Some-Full.field-0-is c.in-Some-Full.ensures in
+    let after : SharedView = c.call-look.new.self in
+    let stops : Stops number c.args.event.now s after c.in-Full.full =
+    c.in-Full.ensures in
     full start most number seq before s held found after
-    (view c.leave-in-Some-Full.new.self.1.0) c.leave-in-Some-Full.ensures.1 hub c.args.p.now c.p.view_is
-    (lock_named c.leave-in-Some-Full.new.self.1.0)
-    (c.leave-in-Some-Full.ensures.0.0 ∙ (c.enter-held.ensures.lock ∙ own)) c.args.event.now
-    c.in-Some-Full.full stops c.sound-2.ensures
+    (view c.leave-in-Full.new.self.1.0) c.leave-in-Full.ensures.1 hub c.args.p.now c.p.view_is
+    (lock_named c.leave-in-Full.new.self.1.0)
+    (c.leave-in-Full.ensures.0.0 ∙ (c.enter-held.ensures.lock ∙ own)) c.args.event.now
+    c.in-Full.full stops c.sound-2.ensures
 
-pub returns-in-None : goal.returns-in-None
-returns-in-None g c =
+pub returns-in-Waits : goal.returns-in-Waits
+returns-in-Waits g c =
     let start = g.J.Opening.start in let most = g.J.Opening.limits in
     let number = c.p.inside.number in let seq = c.p.inside.seq in
     let before : View Entry Full = view c.p.inside.place in
@@ -156,7 +149,7 @@ returns-in-None g c =
     c.sound.ensures c.p.invariant.named c.p.invariant.counted c.enter-held.ensures.finds c.enter-held.ensures.view in
     let own : name c.self.inside.lock ≡ hub =
     c.self.view_is ∙ (sym c.requires.own ∙ sym (ap (λ (q : PassView). q.hub) c.p.view_is)) in
-    waits start most number seq before s held found c.call-answer.new.self
-    (view c.leave-in-None.new.self.1.0) c.leave-in-None.ensures.1 hub c.args.p.now c.p.view_is
-    (lock_named c.leave-in-None.new.self.1.0)
-    (c.leave-in-None.ensures.0.0 ∙ (c.enter-held.ensures.lock ∙ own)) c.in-None.ensures
+    waits start most number seq before s held found c.call-look.new.self
+    (view c.leave-in-Waits.new.self.1.0) c.leave-in-Waits.ensures.1 hub c.args.p.now c.p.view_is
+    (lock_named c.leave-in-Waits.new.self.1.0)
+    (c.leave-in-Waits.ensures.0.0 ∙ (c.enter-held.ensures.lock ∙ own)) c.in-Waits.ensures
