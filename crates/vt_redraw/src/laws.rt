@@ -2,7 +2,7 @@
 ghost use Rattle.vt_redraw.specs.Behind.{TextsFollow};
 ghost use Rattle.vt_redraw.specs.DrawableRows.{RowsAreCharacters};
 ghost use Rattle.vt_redraw.specs.Parts.{RedrawsUseRows};
-ghost use Rattle.vt_redraw.specs.Reached.{StatesAreDrawable};
+ghost use Rattle.vt_redraw.specs.Reached.{StatesAreDrawable, TapeStatesAreDrawable};
 ghost use Rattle.vt_redraw.specs.Redraw.{ChangesRedraw, ScreensRedraw};
 
 use vt_cells::columns_are_few;
@@ -29,9 +29,10 @@ pub fn texts_follow()
 {}
 
 /// A text can make the state of every screen that bytes alone make from a start. So only the cells of such a screen can
-/// keep it from being redrawable.
+/// keep it from being redrawable. After changes of size the saved cursor can too, and nothing else of the state.
 pub fn states_are_drawable()
-    ensures { StatesAreDrawable }
+    ensures bytes { StatesAreDrawable }
+    ensures changes { TapeStatesAreDrawable }
 {}
 
 /// A row is drawable exactly if it is the cells of characters that print themselves, each one of two columns with its
