@@ -64,7 +64,10 @@ LEFT = {
         "vt screen 25 80 < file": USAGE, "vt keys < keymap": USAGE, "vt type < table": USAGE, "vt cook < bytes": USAGE,
         "vt play < session.toml": USAGE, "vt race < session.toml": USAGE, "cat session.toml journal": USAGE,
     },
-    "docs/contributing/gate.md": {"fn my_first::bump": "what a failed proof prints"},
+    "docs/contributing/gate.md": {
+        "fn my_first::bump": "what a failed proof prints",
+        "apt-get install": "it changes the machine",
+    },
     "docs/contributing/performance.md": {"bench/": "a measurement of many minutes"},
     "docs/guide/display-server.md": {"asks for console 2": DRAWING},
     "docs/guide/embed-a-crate.md": {
