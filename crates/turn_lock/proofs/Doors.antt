@@ -1,18 +1,19 @@
 -- Each step on the counts of the door keeps its rule.
-use Rattle.std.proofs.Common.{◌≡◌, ◌≢◌, ◌==◌, ℕ, ◌+◌, ◌%◌, ◌^◌, ◌≤◌, List, [], ◌∷◌, ◌++◌, length}
+use Rattle.std.proofs.Common.{◌≡◌, ◌≢◌, ◌==◌, ℕ, zero, suc, ◌+◌, ◌%◌, ◌^◌, ◌<◌, ◌≤◌, true, false, cond, List, [], ◌∷◌, ◌++◌, length}
 use Rattle.std.proofs.Common.{get_or, set, sym, refl, ap, ◌∙◌, subst, arith}
+use Rattle.std.proofs.lemmas.List.Sums.{sum_by-set, sum_by_push}
 use Rattle.std.proofs.Common.{length-set, get_or-set_same, get_or-set_other}
 use Rattle.std.proofs.lemmas.List.{set-get_or}
 use mathlib.Core.Logic.{dite}
 use native.Mathlib.Decide.{ℕ_discrete, dec_le}
-use mathlib.Core.Option.{some}
+use mathlib.Core.Option.{some, some-injective, some-ne-none}
 use lib.ListN.{get_elem?}
 use prog.Atomic.{either}
 use Rattle.atomic_table.specs.Table.{Me, Allows, Enters, keeps}
 use Rattle.atomic_table.proofs.Lists.{at_longer, exchanged, set_here, set_else}
 use Rattle.turn_lock.specs.declared.at_door.AtDoor.{AtDoor}
 use Rattle.turn_lock.specs.declared.at_door.AtDoor.TheVariants as at_door
-use Rattle.turn_lock.specs.Door.{HoldsNumber, Knows, IsInOrder, DoorHolds, DoorRule, number_at}
+use Rattle.turn_lock.specs.Door.{HoldsNumber, Knows, IsInOrder, DoorHolds, DoorRule, number_at, has_drawn, came_of}
 use Rattle.turn_lock.specs.Door.{Arrives, DrawsNumber, LooksForCall, ComesIn, ReadsEntered, ReadsCame, CallsIn}
 use Rattle.turn_lock.proofs.Lists.{put, put_here, put_else, in_range, same_at, each_set, each_end, each_one}
 use Rattle.turn_lock.proofs.Seats.{some_step}
@@ -77,6 +78,7 @@ module _ (callers : List AtDoor) (id : ℕ) (v w : AtDoor) (at : get_elem? calle
         other : (j : ℕ) (u : AtDoor) → Knows came called entered c.holder j u
             → Knows (came + 1) called entered (put c.holder came id) j u
         other j at_door.Away s = tt
+        other j at_door.Entered s = tt
         other j (at_door.Waits n) s = let l = s.1 in
             (s.0, omega (arith, l), put_else c.holder came id n (λ e. omega (arith, e, l)) ∙ s.2)
         other j (at_door.Called n) s = let l = s.1 in let b = c.has_come in
@@ -85,7 +87,7 @@ module _ (callers : List AtDoor) (id : ℕ) (v w : AtDoor) (at : get_elem? calle
         other j (at_door.MayCall n) s = let l = s.1 in (s.0, omega (arith, l))
 
     -- the caller was called in, and comes in
-    comes_in : (m : ℕ) → v ≡ at_door.Called m → w ≡ at_door.Away
+    comes_in : (m : ℕ) → v ≡ at_door.Called m → w ≡ at_door.Entered
         → IsInOrder came called (entered + 1) (set callers id w)
     comes_in m was is =
         let own : Knows came called entered c.holder id (at_door.Called m) =
@@ -115,6 +117,7 @@ module _ (callers : List AtDoor) (id : ℕ) (v w : AtDoor) (at : get_elem? calle
         other : (own : Knows came called entered c.holder id (at_door.Called m)) (j : ℕ) (u : AtDoor)
             → j ≢ id → Knows came called entered c.holder j u → Knows came called (entered + 1) c.holder j u
         other own j at_door.Away ne s = tt
+        other own j at_door.Entered ne s = tt
         other own j (at_door.Waits n) ne s = (next own j n ne s.0 s.2, s.1, s.2)
         other own j (at_door.Called n) ne s = (next own j n ne s.0 s.2, s.1, s.2)
         other own j (at_door.ReadsEntered n) ne s = omega (arith, s)
@@ -141,6 +144,7 @@ module _ (callers : List AtDoor) (id : ℕ) (v w : AtDoor) (at : get_elem? calle
         other : (j : ℕ) (u : AtDoor) → Knows came called entered c.holder j u
             → Knows came (called + 1) entered c.holder j u
         other j at_door.Away s = tt
+        other j at_door.Entered s = tt
         other j (at_door.Waits n) s = s
         other j (at_door.Called n) s = let l = s.1 in (s.0, omega (arith, l), s.2)
         other j (at_door.ReadsEntered n) s = s
@@ -165,32 +169,63 @@ loaded : (words : List ℕ) (i : ℕ) (callers : List AtDoor) → DoorHolds word
     → DoorHolds (set words i (get_or words i 0)) callers
 loaded words i callers = subst (λ (ws : List ℕ). DoorHolds ws callers) (sym (set-get_or words i 0))
 
+element : {A : Type 0} (l : List A) (i : ℕ) (a : A) → get_elem? l i ≡ some a → get_or l i a ≡ a
+element [] i a at = absurd (some-ne-none a (sym at))
+element (x ∷ xs) zero a at = some-injective x a at
+element (x ∷ xs) (suc i) a at = element xs i a at
+
+module _ (callers : List AtDoor) (id : ℕ) (v w : AtDoor) (at : get_elem? callers id ≡ some v) where
+  counted : came_of (set callers id w) + cond (has_drawn v) 1 0 ≡ came_of callers + cond (has_drawn w) 1 0
+  counted = subst (λ (u : AtDoor).
+      came_of (set callers id w) + cond (has_drawn u) 1 0 ≡ came_of callers + cond (has_drawn w) 1 0)
+      (element callers id v at)
+      (sum_by-set (λ c. cond (has_drawn c) 1 0) callers id w v (in_range callers id v at))
+
+  -- as many callers drew a number as before
+  as_many : has_drawn v ≡ has_drawn w → came_of (set callers id w) ≡ came_of callers
+  as_many same = let h = counted in let e = ap {B = ℕ} (λ b. cond b 1 0) same in omega (arith, h, e)
+
+  -- one more caller drew a number
+  one_more : has_drawn v ≡ false → has_drawn w ≡ true → came_of (set callers id w) ≡ came_of callers + 1
+  one_more old new =
+      let h = counted in let e = ap {B = ℕ} (λ b. cond b 1 0) old in let f = ap {B = ℕ} (λ b. cond b 1 0) new in
+      omega (arith, h, e, f)
+
+-- a new caller drew no number
+as_many_with : (callers : List AtDoor) (w : AtDoor) → has_drawn w ≡ false
+    → came_of (callers ++ w ∷ []) ≡ came_of callers
+as_many_with callers w none =
+    let h = sum_by_push (λ c. cond (has_drawn c) 1 0) callers w in let e = ap {B = ℕ} (λ b. cond b 1 0) none in
+    omega (arith, h, e)
+
+-- the rule, by the number of the callers that came
+by_count : (words : List ℕ) (callers : List AtDoor) (came : ℕ) → came_of callers ≡ came → length words ≡ 3
+    → get_or words 0 0 ≡ came % 2 ^ 64
+    → (came < 2 ^ 64 → IsInOrder came (get_or words 1 0) (get_or words 2 0) callers) → DoorHolds words callers
+by_count words callers came is wide word order =
+    subst (λ (n : ℕ). (length words ≡ 3) × (get_or words 0 0 ≡ n % 2 ^ 64)
+    × (n < 2 ^ 64 → IsInOrder n (get_or words 1 0) (get_or words 2 0) callers)) (sym is) (wide, word, order)
+
 pub opens : DoorHolds (0 ∷ 0 ∷ 0 ∷ []) (at_door.Away ∷ [])
-opens = (
-  0,
-  refl,
-  refl,
-  λ few. record {
-    was_called = omega arith;
-    one = omega arith;
-    has_come = omega arith;
-    holder = λ n. 0;
-    each = each_one (Knows 0 0 0 (λ n. 0)) at_door.Away tt;
-    each_number = λ n low high. absurd (omega (arith, high));
-  },
-)
+opens = by_count (0 ∷ 0 ∷ 0 ∷ []) (at_door.Away ∷ []) 0 refl refl refl
+    (λ few. record {
+      was_called = omega arith;
+      one = omega arith;
+      has_come = omega arith;
+      holder = λ n. 0;
+      each = each_one (Knows 0 0 0 (λ n. 0)) at_door.Away tt;
+      each_number = λ n low high. absurd (omega (arith, high));
+    })
 
 module _ {S : Type 0} where
   pub arrives_ok : (slots word : ℕ) (me : Me S AtDoor) → me.1 ≡ []
       → Enters (DoorRule {S = S}) slots word (λ n w. Arrives some_step me n (w, []))
   arrives_ok slots word me none s rule deep small = (
     at_door.Away,
-    (
-      rule.0,
-      rule.1,
-      rule.2,
-      λ few. comes s.views at_door.Away rule.0 (get_or s.words 1 0) (get_or s.words 2 0) (rule.3 few) (λ j. tt),
-    ),
+    by_count s.words (s.views ++ at_door.Away ∷ []) (came_of s.views) (as_many_with s.views at_door.Away refl)
+        rule.0 rule.1
+        (λ few.
+        comes s.views at_door.Away (came_of s.views) (get_or s.words 1 0) (get_or s.words 2 0) (rule.2 few) (λ j. tt)),
     ap (λ l. (at_door.Away, l)) (sym none),
   )
 
@@ -199,64 +234,56 @@ module _ {S : Type 0} where
   reads_entered_ok slots me none s rule deep small =
       let n : ℕ = get_or s.words 2 0 in let w : AtDoor = at_door.ReadsEntered n in (
         w,
-        (
-          rule.0,
-          rule.1,
-          rule.2,
-          λ few. comes s.views w rule.0 (get_or s.words 1 0) n (rule.3 few) (λ j. omega arith),
-        ),
+        by_count s.words (s.views ++ w ∷ []) (came_of s.views) (as_many_with s.views w refl) rule.0 rule.1
+            (λ few. comes s.views w (came_of s.views) (get_or s.words 1 0) n (rule.2 few) (λ j. omega arith)),
         ap (λ l. (w, l)) (sym none),
       )
 
   pub draws_ok : (slots id : ℕ) (me : Me S AtDoor) → me.0 ≡ at_door.Away
       → Allows (DoorRule {S = S}) slots id me 0 (λ n. (n + 1) % 2 ^ 64) (DrawsNumber some_step me)
   draws_ok slots id me away s rule deep at small =
-      let wide : length s.words ≡ 3 = rule.1 in let came : ℕ = rule.0 in
-      let word : ℕ = get_or s.words 0 0 in let is : word ≡ came % 2 ^ 64 = rule.2 in
+      let wide : length s.words ≡ 3 = rule.0 in let came : ℕ = came_of s.views in
+      let word : ℕ = get_or s.words 0 0 in let is : word ≡ came % 2 ^ 64 = rule.1 in
       let more : ℕ = (word + 1) % 2 ^ 64 in
       let words' : List ℕ = set s.words 0 more in
       let w : AtDoor = at_door.Waits word in (
         w,
         keeps,
         tt,
-        (
-          came + 1,
-          length-set s.words 0 more ∙ wide,
-          get_or-set_same s.words 0 more 0 (omega (arith, wide)) ∙ omega (arith, is),
-          λ few.
-              subst (λ (k : ℕ). IsInOrder (came + 1) k (get_or words' 2 0) (set s.views id w))
-              (sym (get_or-set_other s.words 0 1 more 0 (λ e. omega (arith, e))))
-              (subst (λ (k : ℕ). IsInOrder (came + 1) (get_or s.words 1 0) k (set s.views id w))
-              (sym (get_or-set_other s.words 0 2 more 0 (λ e. omega (arith, e))))
-              (draws s.views id me.0 w at came (get_or s.words 1 0) (get_or s.words 2 0)
-              (rule.3 (omega (arith, few)))
-              (λ n h. subst (HoldsNumber n) away h)
-              (ap at_door.Waits (omega (arith, is, few))))),
-        ),
+        by_count words' (set s.views id w) (came + 1) (one_more s.views id me.0 w at (ap has_drawn away) refl)
+            (length-set s.words 0 more ∙ wide)
+            (get_or-set_same s.words 0 more 0 (omega (arith, wide)) ∙ omega (arith, is))
+            (λ few.
+            subst (λ (k : ℕ). IsInOrder (came + 1) k (get_or words' 2 0) (set s.views id w))
+            (sym (get_or-set_other s.words 0 1 more 0 (λ e. omega (arith, e))))
+            (subst (λ (k : ℕ). IsInOrder (came + 1) (get_or s.words 1 0) k (set s.views id w))
+            (sym (get_or-set_other s.words 0 2 more 0 (λ e. omega (arith, e))))
+            (draws s.views id me.0 w at came (get_or s.words 1 0) (get_or s.words 2 0)
+            (rule.2 (omega (arith, few)))
+            (λ n h. subst (HoldsNumber n) away h)
+            (ap at_door.Waits (omega (arith, is, few)))))),
         refl,
       )
 
   pub looks_ok : (slots id : ℕ) (me : Me S AtDoor) (m : ℕ) → me.0 ≡ at_door.Waits m
       → Allows (DoorRule {S = S}) slots id me 1 (λ n. n) (LooksForCall some_step me)
   looks_ok slots id me m waits s rule deep at small =
-      let came : ℕ = rule.0 in let called : ℕ = get_or s.words 1 0 in let entered : ℕ = get_or s.words 2 0 in
+      let came : ℕ = came_of s.views in let called : ℕ = get_or s.words 1 0 in let entered : ℕ = get_or s.words 2 0 in
       let number : number_at me.0 ≡ m = ap number_at waits in
       dite (dec_le (m + 1) called)
       (λ high. (
         at_door.Called m,
         keeps,
         tt,
-        loaded s.words 1 (set s.views id (at_door.Called m)) (
-          came,
-          rule.1,
-          rule.2,
-          λ few.
-              let c = rule.3 few in
-              let own : Knows came called entered c.holder id (at_door.Waits m) =
-              subst (Knows came called entered c.holder id) waits (c.each id me.0 at) in
-              learns s.views id me.0 (at_door.Called m) at came called entered c
-              (own.0, omega (arith, high), own.2) (λ n h. subst (HoldsNumber n) waits h),
-        ),
+        loaded s.words 1 (set s.views id (at_door.Called m))
+            (by_count s.words (set s.views id (at_door.Called m)) came
+            (as_many s.views id me.0 (at_door.Called m) at (ap has_drawn waits)) rule.0 rule.1
+            (λ few.
+            let c = rule.2 few in
+            let own : Knows came called entered c.holder id (at_door.Waits m) =
+            subst (Knows came called entered c.holder id) waits (c.each id me.0 at) in
+            learns s.views id me.0 (at_door.Called m) at came called entered c
+            (own.0, omega (arith, high), own.2) (λ n h. subst (HoldsNumber n) waits h))),
         (
           (λ less. ap (λ k. (at_door.Called k, me.1)) (sym number)),
           (λ least. absurd (omega (arith, least, number, high))),
@@ -266,51 +293,47 @@ module _ {S : Type 0} where
         me.0,
         keeps,
         tt,
-        loaded s.words 1 (set s.views id me.0) (
-          came,
-          rule.1,
-          rule.2,
-          λ few.
-              let c = rule.3 few in
-              learns s.views id me.0 me.0 at came called entered c (c.each id me.0 at) (λ n h. h),
-        ),
+        loaded s.words 1 (set s.views id me.0)
+            (by_count s.words (set s.views id me.0) came
+            (as_many s.views id me.0 me.0 at refl) rule.0 rule.1
+            (λ few.
+            let c = rule.2 few in
+            learns s.views id me.0 me.0 at came called entered c (c.each id me.0 at) (λ n h. h))),
         ((λ less. absurd (low (omega (arith, less, number)))), (λ least. refl)),
       ))
 
   pub comes_in_ok : (slots id : ℕ) (me : Me S AtDoor) (m : ℕ) → me.0 ≡ at_door.Called m
       → Allows (DoorRule {S = S}) slots id me 2 (λ n. (n + 1) % 2 ^ 64) (ComesIn some_step me)
   comes_in_ok slots id me m was s rule deep at small =
-      let wide : length s.words ≡ 3 = rule.1 in let came : ℕ = rule.0 in
+      let wide : length s.words ≡ 3 = rule.0 in let came : ℕ = came_of s.views in
       let called : ℕ = get_or s.words 1 0 in let entered : ℕ = get_or s.words 2 0 in
       let more : ℕ = (entered + 1) % 2 ^ 64 in
       let words' : List ℕ = set s.words 2 more in
-      let callers : List AtDoor = set s.views id at_door.Away in (
-        at_door.Away,
+      let callers : List AtDoor = set s.views id at_door.Entered in (
+        at_door.Entered,
         keeps,
         tt,
-        (
-          came,
-          length-set s.words 2 more ∙ wide,
-          get_or-set_other s.words 2 0 more 0 (λ e. omega (arith, e)) ∙ rule.2,
-          λ few.
-              let c = rule.3 few in
-              let own : Knows came called entered c.holder id (at_door.Called m) =
-              subst (Knows came called entered c.holder id) was (c.each id me.0 at) in
-              let low = own.0 in let high = own.1 in let come = c.has_come in
-              let next : more ≡ entered + 1 = omega (arith, low, high, come, few) in
-              subst (λ (k : ℕ). IsInOrder came k (get_or words' 2 0) callers)
-              (sym (get_or-set_other s.words 2 1 more 0 (λ e. omega (arith, e))))
-              (subst (λ (k : ℕ). IsInOrder came called k callers)
-              (sym (get_or-set_same s.words 2 more 0 (omega (arith, wide)) ∙ next))
-              (comes_in s.views id me.0 at_door.Away at came called entered c m was refl)),
-        ),
+        by_count words' callers came (as_many s.views id me.0 at_door.Entered at (ap has_drawn was))
+            (length-set s.words 2 more ∙ wide)
+            (get_or-set_other s.words 2 0 more 0 (λ e. omega (arith, e)) ∙ rule.1)
+            (λ few.
+            let c = rule.2 few in
+            let own : Knows came called entered c.holder id (at_door.Called m) =
+            subst (Knows came called entered c.holder id) was (c.each id me.0 at) in
+            let low = own.0 in let high = own.1 in let come = c.has_come in
+            let next : more ≡ entered + 1 = omega (arith, low, high, come, few) in
+            subst (λ (k : ℕ). IsInOrder came k (get_or words' 2 0) callers)
+            (sym (get_or-set_other s.words 2 1 more 0 (λ e. omega (arith, e))))
+            (subst (λ (k : ℕ). IsInOrder came called k callers)
+            (sym (get_or-set_same s.words 2 more 0 (omega (arith, wide)) ∙ next))
+            (comes_in s.views id me.0 at_door.Entered at came called entered c m was refl))),
         refl,
       )
 
   pub reads_came_ok : (slots id : ℕ) (me : Me S AtDoor) (m : ℕ) → me.0 ≡ at_door.ReadsEntered m
       → Allows (DoorRule {S = S}) slots id me 0 (λ n. n) (ReadsCame some_step me)
   reads_came_ok slots id me m read s rule deep at small =
-      let word : ℕ = get_or s.words 0 0 in let came : ℕ = rule.0 in let is : word ≡ came % 2 ^ 64 = rule.2 in
+      let word : ℕ = get_or s.words 0 0 in let came : ℕ = came_of s.views in let is : word ≡ came % 2 ^ 64 = rule.1 in
       let called : ℕ = get_or s.words 1 0 in let entered : ℕ = get_or s.words 2 0 in
       let number : number_at me.0 ≡ m = ap number_at read in
       dite (ℕ_discrete word m)
@@ -318,33 +341,29 @@ module _ {S : Type 0} where
         me.0,
         keeps,
         tt,
-        loaded s.words 0 (set s.views id me.0) (
-          came,
-          rule.1,
-          rule.2,
-          λ few.
-              let c = rule.3 few in
-              learns s.views id me.0 me.0 at came called entered c (c.each id me.0 at) (λ n h. h),
-        ),
+        loaded s.words 0 (set s.views id me.0)
+            (by_count s.words (set s.views id me.0) came
+            (as_many s.views id me.0 me.0 at refl) rule.0 rule.1
+            (λ few.
+            let c = rule.2 few in
+            learns s.views id me.0 me.0 at came called entered c (c.each id me.0 at) (λ n h. h))),
         ((λ other. absurd (other (same ∙ sym number))), (λ e. refl)),
       ))
       (λ other. (
         at_door.MayCall m,
         keeps,
         tt,
-        loaded s.words 0 (set s.views id (at_door.MayCall m)) (
-          came,
-          rule.1,
-          rule.2,
-          λ few.
-              let c = rule.3 few in
-              let own : Knows came called entered c.holder id (at_door.ReadsEntered m) =
-              subst (Knows came called entered c.holder id) read (c.each id me.0 at) in
-              let called_in = c.was_called in let come = c.has_come in
-              learns s.views id me.0 (at_door.MayCall m) at came called entered c
-              (own, omega (arith, own, called_in, come, other, is, few))
-              (λ n h. absurd (subst (HoldsNumber n) read h)),
-        ),
+        loaded s.words 0 (set s.views id (at_door.MayCall m))
+            (by_count s.words (set s.views id (at_door.MayCall m)) came
+            (as_many s.views id me.0 (at_door.MayCall m) at (ap has_drawn read)) rule.0 rule.1
+            (λ few.
+            let c = rule.2 few in
+            let own : Knows came called entered c.holder id (at_door.ReadsEntered m) =
+            subst (Knows came called entered c.holder id) read (c.each id me.0 at) in
+            let called_in = c.was_called in let come = c.has_come in
+            learns s.views id me.0 (at_door.MayCall m) at came called entered c
+            (own, omega (arith, own, called_in, come, other, is, few))
+            (λ n h. absurd (subst (HoldsNumber n) read h)))),
         ((λ e. ap (λ k. (at_door.MayCall k, me.1)) (sym number)), (λ e. absurd (other (e ∙ number)))),
       ))
 
@@ -352,7 +371,7 @@ module _ {S : Type 0} where
       → new ≡ (old + 1) % 2 ^ 64
       → Allows (DoorRule {S = S}) slots id me 1 (λ n. either (n == old) new n) (CallsIn some_step me)
   calls_ok slots id me old new may next s rule deep at small =
-      let wide : length s.words ≡ 3 = rule.1 in let came : ℕ = rule.0 in
+      let wide : length s.words ≡ 3 = rule.0 in let came : ℕ = came_of s.views in
       let called : ℕ = get_or s.words 1 0 in let entered : ℕ = get_or s.words 2 0 in
       let words' : List ℕ = set s.words 1 new in
       let callers : List AtDoor = set s.views id at_door.Away in (
@@ -360,31 +379,27 @@ module _ {S : Type 0} where
         keeps,
         tt,
         exchanged called old new (λ n. DoorHolds (set s.words 1 n) callers)
-            (λ same. (
-              came,
-              length-set s.words 1 new ∙ wide,
-              get_or-set_other s.words 1 0 new 0 (λ e. omega (arith, e)) ∙ rule.2,
-              λ few.
-                  let c = rule.3 few in
-                  let own : Knows came called entered c.holder id (at_door.MayCall old) =
-                  subst (Knows came called entered c.holder id) may (c.each id me.0 at) in
-                  let high = own.1 in
-                  let more : new ≡ called + 1 = omega (arith, next, same, high, few) in
-                  subst (λ (k : ℕ). IsInOrder came (get_or words' 1 0) k callers)
-                  (sym (get_or-set_other s.words 1 2 new 0 (λ e. omega (arith, e))))
-                  (subst (λ (k : ℕ). IsInOrder came k entered callers)
-                  (sym (get_or-set_same s.words 1 new 0 (omega (arith, wide)) ∙ more))
-                  (calls_in s.views id me.0 at_door.Away at came called entered c
-                  (may ∙ ap at_door.MayCall (sym same)) refl)),
-            ))
-            (λ other. loaded s.words 1 callers (
-              came,
-              rule.1,
-              rule.2,
-              λ few.
-                  let c = rule.3 few in
-                  learns s.views id me.0 at_door.Away at came called entered c tt
-                  (λ n h. absurd (subst (HoldsNumber n) may h)),
-            )),
+            (λ same. by_count (set s.words 1 new) callers came
+            (as_many s.views id me.0 at_door.Away at (ap has_drawn may))
+            (length-set s.words 1 new ∙ wide)
+            (get_or-set_other s.words 1 0 new 0 (λ e. omega (arith, e)) ∙ rule.1)
+            (λ few.
+            let c = rule.2 few in
+            let own : Knows came called entered c.holder id (at_door.MayCall old) =
+            subst (Knows came called entered c.holder id) may (c.each id me.0 at) in
+            let high = own.1 in
+            let more : new ≡ called + 1 = omega (arith, next, same, high, few) in
+            subst (λ (k : ℕ). IsInOrder came (get_or words' 1 0) k callers)
+            (sym (get_or-set_other s.words 1 2 new 0 (λ e. omega (arith, e))))
+            (subst (λ (k : ℕ). IsInOrder came k entered callers)
+            (sym (get_or-set_same s.words 1 new 0 (omega (arith, wide)) ∙ more))
+            (calls_in s.views id me.0 at_door.Away at came called entered c
+            (may ∙ ap at_door.MayCall (sym same)) refl))))
+            (λ other. loaded s.words 1 callers (by_count s.words callers came
+            (as_many s.views id me.0 at_door.Away at (ap has_drawn may)) rule.0 rule.1
+            (λ few.
+            let c = rule.2 few in
+            learns s.views id me.0 at_door.Away at came called entered c tt
+            (λ n h. absurd (subst (HoldsNumber n) may h))))),
         refl,
       )

@@ -1,7 +1,7 @@
 -- The rule of the door, which holds between any two atomic steps on its counts. Its words are `came`,
--- `called` and `entered`. Callers are counted without end, and the first word has the last 64 bits of their
--- count. The words are compared as they stand, so the rest holds while fewer than 2^64 callers came.
-use Rattle.std.specs.Prelude.{◌≡◌, ◌≢◌, ℕ, ◌+◌, ◌%◌, ◌^◌, ◌<◌, ◌≤◌, List, length, slice_index}
+-- `called` and `entered`. The first word has the last 64 bits of the number of callers that drew a number. The words
+-- are compared as they stand, so the rest holds while fewer than 2^64 callers drew one.
+use Rattle.std.specs.Prelude.{◌≡◌, ◌≢◌, ℕ, ◌+◌, ◌%◌, ◌^◌, ◌<◌, ◌≤◌, Bool, true, false, List, length, slice_index, count_by}
 use mathlib.Core.Option.{some}
 use lib.ListN.{get_elem?}
 use Rattle.atomic_table.specs.Table.{State, Me, Step}
@@ -13,6 +13,7 @@ abbrev pub HoldsNumber : ℕ → AtDoor → Type 0
 HoldsNumber n at_door.Away = ⊥
 HoldsNumber n (at_door.Waits m) = m ≡ n
 HoldsNumber n (at_door.Called m) = m ≡ n
+HoldsNumber n at_door.Entered = ⊥
 HoldsNumber n (at_door.ReadsEntered m) = ⊥
 HoldsNumber n (at_door.MayCall m) = ⊥
 
@@ -21,6 +22,7 @@ abbrev pub Knows : ℕ → ℕ → ℕ → (ℕ → ℕ) → ℕ → AtDoor → 
 Knows came called entered holder j at_door.Away = Unit {0}
 Knows came called entered holder j (at_door.Waits n) = (entered ≤ n) × (n < came) × (holder n ≡ j)
 Knows came called entered holder j (at_door.Called n) = (entered ≤ n) × (n < called) × (holder n ≡ j)
+Knows came called entered holder j at_door.Entered = Unit {0}
 Knows came called entered holder j (at_door.ReadsEntered n) = n ≤ entered
 Knows came called entered holder j (at_door.MayCall n) = (n ≤ entered) × (n < came)
 
@@ -36,10 +38,23 @@ pub record IsInOrder (came called entered : ℕ) (callers : List AtDoor) : Type 
   pub each_number : (n : ℕ) → entered ≤ n → n < came
       → (v : AtDoor) × (get_elem? callers (holder n) ≡ some v) × HoldsNumber n v
 
+-- the caller drew a number
+abbrev pub has_drawn : AtDoor → Bool
+has_drawn at_door.Away = false
+has_drawn (at_door.Waits n) = true
+has_drawn (at_door.Called n) = true
+has_drawn at_door.Entered = true
+has_drawn (at_door.ReadsEntered n) = false
+has_drawn (at_door.MayCall n) = false
+
+-- how many callers came to the door and drew a number
+abbrev pub came_of : List AtDoor → ℕ
+came_of callers = count_by has_drawn callers
+
 abbrev pub DoorHolds : List ℕ → List AtDoor → Type 0
 DoorHolds words callers =
-    (came : ℕ) × (length words ≡ 3) × (slice_index words 0 ≡ came % 2 ^ 64)
-    × (came < 2 ^ 64 → IsInOrder came (slice_index words 1) (slice_index words 2) callers)
+    (length words ≡ 3) × (slice_index words 0 ≡ came_of callers % 2 ^ 64)
+    × (came_of callers < 2 ^ 64 → IsInOrder (came_of callers) (slice_index words 1) (slice_index words 2) callers)
 
 abbrev pub DoorRule : {S : Type 0} → State S AtDoor → Type 0
 DoorRule s = DoorHolds s.words s.views
@@ -49,6 +64,7 @@ abbrev pub number_at : AtDoor → ℕ
 number_at at_door.Away = 0
 number_at (at_door.Waits n) = n
 number_at (at_door.Called n) = n
+number_at at_door.Entered = 0
 number_at (at_door.ReadsEntered n) = n
 number_at (at_door.MayCall n) = n
 
@@ -65,7 +81,7 @@ module _ {S : Type 0} where
       (number_at m.0 < n → m' ≡ (at_door.Called (number_at m.0), m.1)) × (n ≤ number_at m.0 → m' ≡ m)
 
   abbrev pub ComesIn : Step S → Me S AtDoor → ℕ → Me S AtDoor → Type 0
-  ComesIn st m n m' = m' ≡ (at_door.Away, m.1)
+  ComesIn st m n m' = m' ≡ (at_door.Entered, m.1)
 
   abbrev pub ReadsEntered : Step S → Me S AtDoor → ℕ → Me S AtDoor → Type 0
   ReadsEntered st m n m' = m' ≡ (at_door.ReadsEntered n, m.1)

@@ -9,4 +9,4 @@ WaitsAt visitor = visitor.seat.me ≡ (at_door.Waits visitor.number, [])
 
 -- it came in
 abbrev pub HasCome : Visitor → Type 0
-HasCome visitor = visitor.seat.me ≡ (at_door.Away, [])
+HasCome visitor = visitor.seat.me ≡ (at_door.Entered, [])

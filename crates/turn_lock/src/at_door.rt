@@ -2,12 +2,14 @@
 
 /// What a caller at the door knows of the counts.
 pub(crate) enum AtDoor {
-    /// It has no number, or came in.
+    /// It has no number.
     Away,
     /// It has this number.
     Waits(u64),
     /// It has this number, which was called in.
     Called(u64),
+    /// It came in.
+    Entered,
     /// It read that so many came in.
     ReadsEntered(u64),
     /// It read that so many came in, and that there are more.

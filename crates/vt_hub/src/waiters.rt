@@ -92,7 +92,7 @@ impl Waiters {
     }
 }
 
-/// The processes whose tickets a call ended. It isn't `Drop`, so a turn that doesn't wake them is refused.
+/// The processes whose tickets a call ended. It isn't `Drop`, so a turn that only drops it doesn't compile.
 pub(crate) struct Ended {
     set: Waiters,
 }

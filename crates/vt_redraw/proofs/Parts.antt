@@ -55,8 +55,12 @@ module _ (rows : List (List Cell)) where
     column-made : Made (sequence n ns 0x47)
     column-made = one (control_sequence n ns 0x47 refl refl)
 
-    region-made : Made (sequence n ns 0x72)
-    region-made = one (control_sequence n ns 0x72 refl refl)
+  region-made : (top bottom : ℕ) → nat_lt top bottom ≡ true → Made (sequence (top + 1) ((bottom + 1) ∷ []) 0x72)
+  region-made top bottom less =
+      let order : top < bottom = ltb-true top bottom less in
+      one (control_sequence (top + 1) ((bottom + 1) ∷ []) 0x72 refl
+      (and_from (nat_le 1 (top + 1)) (nat_lt (top + 1) (bottom + 1)) (le-leb 1 (top + 1) (omega arith))
+      (lt-ltb (top + 1) (bottom + 1) (omega (arith, order)))))
 
   mode-made : (n : ℕ) (on : Bool) → is_among (3 ∷ 4 ∷ 20 ∷ []) n ≡ true → Made (mode_text n on)
   unfolding mode_text
@@ -288,7 +292,7 @@ module _ (rows : List (List Cell)) where
 
   region-text-made : (s : ScreenState) → Made (region_text s)
   region-text-made s =
-      both (either (nat_lt s.top s.bottom) _ [] (region-made (s.top + 1) ((s.bottom + 1) ∷ [])) done)
+      both (either-if (nat_lt s.top s.bottom) _ [] (region-made s.top s.bottom) (λ one_row. done))
       (private-made 6 s.origin refl)
 
   row-at-made : (news : List (List Cell)) (y : ℕ) → RowsIn news → list_all is_row_drawable news ≡ true

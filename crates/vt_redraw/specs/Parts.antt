@@ -1,6 +1,6 @@
 -- The parts of a redraw's text: characters of the screen, and rows of the effect table with numbers for which they
 -- have an effect.
-use Rattle.std.specs.Prelude.{◌≡◌, ◌<◌, ℕ, Bool, true, false, IsTrue, ◌==◌, ◌&&◌, ◌||◌, nat_le, nat_lt, decimal, encode_utf8, List, [], ◌∷◌, ◌++◌, if◌then◌else◌}
+use Rattle.std.specs.Prelude.{◌≡◌, ◌<◌, ℕ, Bool, true, false, IsTrue, not, ◌==◌, ◌&&◌, ◌||◌, nat_le, nat_lt, decimal, encode_utf8, List, [], ◌∷◌, ◌++◌, if◌then◌else◌}
 use Rattle.std.specs.List.{list_all, list_any}
 use Rattle.vt_cells.specs.Colours.{Rgb}
 use Rattle.vt_cells.specs.declared.cell.Cell.{Cell}
@@ -34,8 +34,13 @@ is_setting n [] = n == 8
 is_setting n (value ∷ []) = is_among (1 ∷ 2 ∷ []) n && nat_lt value 16
 is_setting n (value ∷ other ∷ more) = false
 
--- the control sequence with this last byte has an effect for these numbers. SGR, SM, RM, CSI ], ED, EL and TBC
--- have one for some numbers, and the others for all
+-- DECSTBM: the region has two rows or more
+abbrev pub is_region : ℕ → List ℕ → Bool
+is_region n [] = false
+is_region n (last ∷ more) = nat_le 1 n && nat_lt n last
+
+-- the control sequence with this last byte has an effect for these numbers, and it isn't a report or the lights (DA,
+-- DSR and DECLL). SGR, SM, RM, CSI ], ED, EL, TBC and DECSTBM have an effect for some numbers, and the others for all
 abbrev pub has_numbers : ℕ → ℕ → List ℕ → Bool
 has_numbers last n ns =
     if last == 0x6D then list_all is_sgr_number (n ∷ ns)
@@ -44,7 +49,8 @@ has_numbers last n ns =
     else if last == 0x4A then nat_le n 3
     else if last == 0x4B then nat_le n 2
     else if last == 0x67 then is_among (0 ∷ 3 ∷ []) n
-    else true
+    else if last == 0x72 then is_region n ns
+    else not (is_among (0x63 ∷ 0x6E ∷ 0x71 ∷ []) last)
 
 -- a cell of the row has this code
 abbrev pub has_code : List Cell → ℕ → Bool
