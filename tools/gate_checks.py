@@ -75,8 +75,8 @@ def run(command, is_shown=False):
     said, start, status = [], time.monotonic(), None
     try:
         with subprocess.Popen(
-            command, cwd=TOP, env={**os.environ, "VT_PROVED": os.environ.get("VT_TRY","1")}, stdin=subprocess.DEVNULL, stdout=subprocess.PIPE,
-            stderr=subprocess.STDOUT, encoding="utf-8", errors="replace",
+            command, cwd=TOP, env={**os.environ, "VT_PROVED": "1"}, stdin=subprocess.DEVNULL,
+            stdout=subprocess.PIPE, stderr=subprocess.STDOUT, encoding="utf-8", errors="replace",
         ) as running:  # fmt: skip
             end = threading.Timer(LIMIT, running.kill)
             end.start()
