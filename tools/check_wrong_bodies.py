@@ -51,7 +51,7 @@ NO_VERDICT = "NO VERDICT"
 STATE = re.compile(r"^fn (\S+): (.*)$", re.M)
 ACCEPTED = ("proved", "no holes", "depends on a hole", "assumed")
 # What antt writes of an answer whose names are gone, and not of one that proves something else.
-BY_NAME = re.compile(r"has no field|has no +that can be named|is not in scope|was not admitted|is no name")
+BY_NAME = re.compile(r"has no field|has no +that can be named|is not in scope|was not admitted|is no name|no module is found")
 
 
 class Stop(Exception):
@@ -243,10 +243,10 @@ def verdict_of(said, name, path):
     told = [it for it in errors if not BY_NAME.search(re.sub(r"`[^`]*`", "", it))]
     if told:
         return REFUSED, f"{path}: {told[0]}"
-    if "expected a measure" in state:
-        return REFUSED, f"{path}: nothing shows that its loops end"
     if errors:
         return STALE, errors[0]
+    if "expected a measure" in state:
+        return REFUSED, f"{path}: nothing shows that its loops end"
     return NO_VERDICT, f"{path}: {state}"
 
 
