@@ -89,8 +89,8 @@ def run(command, is_shown=False):
     except OSError as fault:
         said.append(f"{command[0]}: {fault.strerror}\n")
     seconds = time.monotonic() - start
-    if status and seconds >= LIMIT:
-        said.append(f"no end after {LIMIT} seconds\n")
+    if status and status < 0:
+        said.append(f"no end after {LIMIT} seconds\n" if seconds >= LIMIT else f"ended by signal {-status}\n")
     return status == 0, "".join(said), seconds
 
 
