@@ -65,9 +65,10 @@ def keymap_faults():
 
 def judged(session, journal):
     """What `check` prints of a session's journal, and what it has to print."""
-    journal = journal[: journal.index(b"\n", journal.index(b"\n%end ") + 1) + 1]
-    entries = journal.rsplit(b"%end ", 1)[1].split()[0]
-    return printed(["check"], session + journal).strip(), b"legal " + entries
+    found = re.match(rb".*?^%end (\d+) \d+\n", journal, re.M | re.S)
+    if not found:
+        return b"it has no line %end", b""
+    return printed(["check"], session + found[0]).strip(), b"legal " + found[1]
 
 
 def session_faults():

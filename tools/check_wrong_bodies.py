@@ -8,7 +8,8 @@ A proof sees of another function its clauses alone. So many edits are tried in o
 functions of a crate, each judged by the goals of its own function. Every other function of the crate is cut off: its
 body is an endless loop, and its proof a hole. Each crate is checked once without an edit first: there every function
 has to be accepted, so that a goal which is open later is open because of an edit. An edit of a constant or a table is
-tried alone, over the laws that name it, and if these still hold, over all functions that name it.
+tried alone, over the laws that name it, and if these still hold, over all functions that name it; a function that is
+open then has to be accepted without the edit.
 
 It checks over the libraries that `rt ci` (or `rt check`) has left in crates/*/out, and prints a line for each crate, a
 line for each edit that isn't refused, and last 'N passed, M failed'. An edit passes if its function has an open goal.
@@ -22,6 +23,7 @@ each kind. Status 1: an edit fails; 2: a word, a library or the toolchain is mis
 """
 import argparse
 import concurrent.futures
+import contextlib
 import functools
 import hashlib
 import os
@@ -49,7 +51,7 @@ NO_VERDICT = "NO VERDICT"
 STATE = re.compile(r"^fn (\S+): (.*)$", re.M)
 ACCEPTED = ("proved", "no holes", "depends on a hole", "assumed")
 # What antt writes of an answer whose names are gone, and not of one that proves something else.
-BY_NAME = re.compile(r"has no field|has no +that can be named|is not in scope|was not admitted|is no name")
+BY_NAME = re.compile(r"has no field|has no +that can be named|is not in scope|was not admitted|is no name|no module is found")
 
 
 class Stop(Exception):
@@ -211,7 +213,7 @@ class Room:
             )  # fmt: skip
         except subprocess.TimeoutExpired:
             return f"no end after {LIMIT} seconds"
-        return ran.stdout
+        return f"ended by signal {-ran.returncode}" if ran.returncode < 0 else ran.stdout
 
 
 def has_verdict(said):
@@ -237,14 +239,14 @@ def verdict_of(said, name, path):
     open_goals = re.search(r"`search` did not prove (`[^`]*`(?:, `[^`]*`)*)", state)
     if open_goals:
         return REFUSED, f"{path}: {open_goals[1]}"
-    errors = errors_of(said, f"proofs/{path.replace('::', '/')}/[^:]*")
+    errors = errors_of(said, f"proofs/{path.replace('::', '/')}/[^/:]*")
     told = [it for it in errors if not BY_NAME.search(re.sub(r"`[^`]*`", "", it))]
     if told:
         return REFUSED, f"{path}: {told[0]}"
-    if "expected a measure" in state:
-        return REFUSED, f"{path}: nothing shows that its loops end"
     if errors:
         return STALE, errors[0]
+    if "expected a measure" in state:
+        return REFUSED, f"{path}: nothing shows that its loops end"
     return NO_VERDICT, f"{path}: {state}"
 
 
@@ -290,6 +292,11 @@ class Trial:
             if not state.startswith(ACCEPTED):
                 raise Stop(f"{self.crate.name}: {path} isn't accepted without an edit: {state}\n{tail(said)}")
 
+    def open_paths(self, said):
+        """The functions of the crate that a check didn't accept."""
+        states = [(name, state) for name, state in STATE.findall(said) if not state.startswith(ACCEPTED)]
+        return [name.removeprefix(f"{self.crate.name}::") for name, _ in states]
+
     def round(self, edits):
         """Tries edits of different functions in one check; one by one if that has no verdict."""
         paths = [path for it in edits for path in it.functions]
@@ -303,7 +310,7 @@ class Trial:
 
     def verdict(self, edit, said):
         if not has_verdict(said):
-            return NOT_COMPILED, first_error(said)
+            return verdict_without_end(said)
         found = [verdict_of(said, self.crate.name, path) for path in edit.functions]
         return next((it for it in found if it[0] == REFUSED), found[0])
 
@@ -314,7 +321,7 @@ class Trial:
             for file, (before, after) in edit.texts.items():
                 now = texts.get(file, before)
                 lines, others = now.split("\n"), after.split("\n")
-                both = zip(functions_of(file, now, types), functions_of(file, after, types), strict=True)
+                both = zip(functions_of(file, now, types), functions_of(file, after, types))
                 for one, other in reversed(list(both)):
                     if one.path in edit.functions:
                         lines[one.opens : one.closes + 1] = others[other.opens : other.closes + 1]
@@ -331,7 +338,9 @@ class Trial:
         for wanted in ([it for it in naming if it.opens == it.closes], naming, [it for it, _ in every]):
             if wanted and found[0] == NOT_REFUSED:
                 said = self.room.check(texts, [it.path for it in wanted])
-                found = verdict_of_constant(said) if has_verdict(said) else (NOT_COMPILED, first_error(said))
+                found = verdict_of_constant(said) if has_verdict(said) else verdict_without_end(said)
+        if found[0] == REFUSED:
+            self.control(self.open_paths(said))
         self.verdicts[edit.name] = found
 
 
@@ -348,9 +357,10 @@ def rounds(edits):
         left = rest
 
 
-def first_error(said):
-    lines = [it for it in said.splitlines() if "error" in it]
-    return (lines or said.splitlines() or ["nothing"])[0]
+def verdict_without_end(said):
+    """What a check says that didn't come to its end: code that isn't compiled, or a check that was ended."""
+    errors = [it for it in said.splitlines() if "error" in it]
+    return (NOT_COMPILED, errors[0]) if errors else (NO_VERDICT, (said.splitlines() or ["the checker prints nothing"])[-1])
 
 
 def tail(said):
@@ -360,7 +370,7 @@ def tail(said):
 def sum_of(name, paths):
     """A sum of all that the verdicts of a crate's edits depend on."""
     made = hashlib.sha256((kit() / "KIT-ID").read_bytes())
-    tools = [pathlib.Path(__file__), pathlib.Path(__file__).with_name("edits.py")]
+    tools = [TOP / "tools" / it for it in ("check_wrong_bodies.py", "edits.py", "copy_crates.py")]
     crates = [*below(name), name]
     for file in [*tools, *(file for it in crates for file in files_of(TOP / "crates" / it)), *paths]:
         made.update(repr(str(file.relative_to(TOP))).encode() + file.read_bytes())
@@ -383,8 +393,9 @@ def tried(name, paths, anew):
         trial = Trial(listed_crate(name), texts, pathlib.Path(folder))
         verdicts = trial.run()
     if all(kind == REFUSED for kind, _ in verdicts.values()):
-        mark.parent.mkdir(parents=True, exist_ok=True)
-        mark.touch()
+        with contextlib.suppress(OSError):  # it is tried again then
+            mark.parent.mkdir(parents=True, exist_ok=True)
+            mark.touch()
     return verdicts, trial.room.checks, time.monotonic() - start
 
 
@@ -399,20 +410,25 @@ def run(names, options):
     """Tries the edits of crates side by side, the largest crates first."""
     edits = {name: sorted((TOP / "crates" / name / "wrong").glob("*.edit")) for name in names}
     edits = {name: paths for name, paths in edits.items() if paths}
+    if not edits:
+        raise Stop("there is no edit in crates/NAME/wrong of these crates")
     weight = lambda name: len(edits[name]) * sum(it.stat().st_size for it in files_of(TOP / "crates" / name))
     passed, failed, lines, whole = 0, 0, [], sum(map(len, edits.values()))
     with concurrent.futures.ThreadPoolExecutor(options.jobs or side_by_side()) as pool:
         running = {pool.submit(tried, it, edits[it], options.anew): it for it in sorted(edits, key=weight, reverse=True)}
-        for done in concurrent.futures.as_completed(running):
-            name, (verdicts, checks, seconds) = running[done], done.result()
-            good = sum(kind == REFUSED for kind, _ in verdicts.values())
-            passed, failed = passed + good, failed + len(verdicts) - good
-            how = f"{checks} checks, {seconds:.0f} s" if checks else "kept from an earlier run"
-            print(f"{name}: {good} of {len(verdicts)} refused ({how}); {passed + failed} of {whole}", flush=True)
-            for edit, (kind, detail) in sorted(verdicts.items()):
-                lines.append(f"{name}/{edit}: {kind}: {detail}\n")
-                if kind != REFUSED:
-                    print(f"crates/{name}/wrong/{edit}.edit: {kind}: {detail}", flush=True)
+        try:
+            for done in concurrent.futures.as_completed(running):
+                name, (verdicts, checks, seconds) = running[done], done.result()
+                good = sum(kind == REFUSED for kind, _ in verdicts.values())
+                passed, failed = passed + good, failed + len(verdicts) - good
+                how = f"{checks} checks, {seconds:.0f} s" if checks else "kept from an earlier run"
+                print(f"{name}: {good} of {len(verdicts)} refused ({how}); {passed + failed} of {whole}", flush=True)
+                for edit, (kind, detail) in sorted(verdicts.items()):
+                    lines.append(f"{name}/{edit}: {kind}: {detail}\n")
+                    if kind != REFUSED:
+                        print(f"crates/{name}/wrong/{edit}.edit: {kind}: {detail}", flush=True)
+        finally:
+            pool.shutdown(cancel_futures=True)
     if options.verdicts:
         pathlib.Path(options.verdicts).write_text("".join(sorted(lines)), encoding="utf-8")
     print(f"{passed} passed, {failed} failed")
@@ -446,6 +462,8 @@ def main():
     parser.add_argument("--self-test", action="store_true")
     parser.add_argument("crates", nargs="*")
     options = parser.parse_args()
+    if options.jobs < 0:
+        parser.error(f"--jobs {options.jobs}: a number from 0 was wanted")
     try:
         if options.self_test:
             return self_test()
@@ -455,7 +473,9 @@ def main():
         return run(options.crates or list(crate_lines()), options)
     except Stop as stop:
         print(f"check_wrong_bodies.py: {stop}", file=sys.stderr)
-        return 2
+    except OSError as fault:
+        print(f"check_wrong_bodies.py: {fault.filename or 'a file'}: {fault.strerror}", file=sys.stderr)
+    return 2
 
 
 if __name__ == "__main__":

@@ -65,6 +65,8 @@ def edited_texts(crate, text):
             kind = "CHANGES TWO PLACES" if found else "NOT FOUND"
             raise BadEdit(kind, f"{file} has the old text {found} times: {old.strip()}")
         texts[file] = first, now.replace(old, new)
+    if all(before == after for before, after in texts.values()):
+        raise BadEdit("BAD FORM", "it changes no line")
     return texts
 
 

@@ -4,8 +4,8 @@
 usage: tools/gate_checks.py [--quick] [--strict] [--jobs N] [NAME ..]
 
 The wrong bodies come first, since they use all processors; then the other checks run side by side, N at once (default:
-as many as there are processors), those that take longest first. With NAMEs only these run. Only proved programs count,
-unless VT_PROVED is empty in the environment. A check fails if its status isn't 0, and then its output is printed. A line `skipped: WHAT: WHY` of a check
+as many as there are processors), those that take longest first. With NAMEs only these run. Only proved programs count
+(VT_PROVED=1). A check fails if its status isn't 0, and then its output is printed. A line `skipped: WHAT: WHY` of a check
 names a part that needs what isn't installed here.
 
 The last lines have the slowest checks with their seconds, the minutes of the whole run (with `rt ci`, if .ci/run has
@@ -75,8 +75,8 @@ def run(command, is_shown=False):
     said, start, status = [], time.monotonic(), None
     try:
         with subprocess.Popen(
-            command, cwd=TOP, env={"VT_PROVED": "1", **os.environ}, stdin=subprocess.DEVNULL, stdout=subprocess.PIPE,
-            stderr=subprocess.STDOUT, encoding="utf-8", errors="replace",
+            command, cwd=TOP, env={**os.environ, "VT_PROVED": "1"}, stdin=subprocess.DEVNULL,
+            stdout=subprocess.PIPE, stderr=subprocess.STDOUT, encoding="utf-8", errors="replace",
         ) as running:  # fmt: skip
             end = threading.Timer(LIMIT, running.kill)
             end.start()
@@ -89,8 +89,8 @@ def run(command, is_shown=False):
     except OSError as fault:
         said.append(f"{command[0]}: {fault.strerror}\n")
     seconds = time.monotonic() - start
-    if status and seconds >= LIMIT:
-        said.append(f"no end after {LIMIT} seconds\n")
+    if status and status < 0:
+        said.append(f"no end after {LIMIT} seconds\n" if seconds >= LIMIT else f"ended by signal {-status}\n")
     return status == 0, "".join(said), seconds
 
 

@@ -31,7 +31,7 @@ Pair = collections.namedtuple("Pair", "accent base result place name remark")
 def table_of(text):
     """Returns names and numbers of a text of kbd_names."""
     words = text.split()
-    return {name: int(number, 16) for name, number in zip(words[::2], words[1::2], strict=True)}
+    return {name: int(number, 16) for name, number in zip(words[::2], words[1::2])}
 
 
 CHARACTERS = {**table_of(kbd_names.CHARACTERS), "Euro": 0x20AC}
@@ -63,7 +63,7 @@ def usual_strings():
 
 def usual_pairs():
     """Gives the pairs of `compose as usual`, each of three bytes."""
-    for pair, code in zip(USUAL_PAIRS[::2], USUAL_PAIRS[1::2], strict=True):
+    for pair, code in zip(USUAL_PAIRS[::2], USUAL_PAIRS[1::2]):
         accent, base, result = ord(pair[0]), ord(pair[1]), int(code, 16)
         yield accent, base, result
         if pair[1].isupper():

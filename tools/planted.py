@@ -50,7 +50,6 @@ pub fn digits_are_decimal()
 }  # fmt: skip
 
 
-
 def edit(old, new):
     return f"file: src/lib.rt\nold: {old}\nnew: {new}\n"
 
@@ -68,5 +67,6 @@ EDITS = [
     ("a_new_text_has_no_place", "BAD FORM", "file: src/lib.rt\nnew: 0\n"),
     ("greatest_digit_is_8", "refused", edit("pub const MOST: u8 = 9;", "pub const MOST: u8 = 8;")),
     ("another_number_of_no_clause", "NOT REFUSED", edit("pub const UNUSED: u8 = 3;", "pub const UNUSED: u8 = 4;")),
+    ("no_line_is_changed", "BAD FORM", edit("    sum(n, n)", "    sum(n, n)")),
     ("a_definition_is_edited", "BAD FORM", "file: proofs/triple/Answers.antt\nold: twice + c\nnew: c\n"),
 ]

@@ -20,7 +20,7 @@ def read():
     index = (SOURCE / "index.rt").read_text(encoding="utf-8")
     text = re.search(r'pub(?:\(crate\))? static NAMES.*?\*b"(.*?)";', table, re.S)[1]
     names = re.sub(r"\\\n *", "", text).split()
-    return dict(zip(names, zip(numbers(index, "KINDS"), numbers(index, "VALUES"), strict=True), strict=True))
+    return dict(zip(names, zip(numbers(index, "KINDS"), numbers(index, "VALUES"))))
 
 
 ACTIONS = read()
