@@ -1,12 +1,11 @@
 -- Each step on the counts of the door keeps its rule.
-use Rattle.std.proofs.Common.{◌≡◌, ◌≢◌, ◌==◌, ℕ, zero, suc, ◌+◌, ◌%◌, ◌^◌, ◌<◌, ◌≤◌, true, false, cond, List, [], ◌∷◌, ◌++◌, length}
-use Rattle.std.proofs.Common.{get_or, set, sym, refl, ap, ◌∙◌, subst, arith}
+use Rattle.std.proofs.Common.{◌≡◌, ◌≢◌, ◌==◌, ℕ, ◌+◌, ◌%◌, ◌^◌, ◌<◌, ◌≤◌, true, false, cond, List, [], ◌∷◌, ◌++◌, length}
+use Rattle.std.proofs.Common.{get_or, set, sym, refl, ap, ◌∙◌, subst, arith, length-set, get_or-set_same, get_or-set_other}
 use Rattle.std.proofs.lemmas.List.Sums.{sum_by-set, sum_by_push}
-use Rattle.std.proofs.Common.{length-set, get_or-set_same, get_or-set_other}
 use Rattle.std.proofs.lemmas.List.{set-get_or}
 use mathlib.Core.Logic.{dite}
 use native.Mathlib.Decide.{ℕ_discrete, dec_le}
-use mathlib.Core.Option.{some, some-injective, some-ne-none}
+use mathlib.Core.Option.{some}
 use lib.ListN.{get_elem?}
 use prog.Atomic.{either}
 use Rattle.atomic_table.specs.Table.{Me, Allows, Enters, keeps}
@@ -15,7 +14,7 @@ use Rattle.turn_lock.specs.declared.at_door.AtDoor.{AtDoor}
 use Rattle.turn_lock.specs.declared.at_door.AtDoor.TheVariants as at_door
 use Rattle.turn_lock.specs.Door.{HoldsNumber, Knows, IsInOrder, DoorHolds, DoorRule, number_at, has_drawn, came_of}
 use Rattle.turn_lock.specs.Door.{Arrives, DrawsNumber, LooksForCall, ComesIn, ReadsEntered, ReadsCame, CallsIn}
-use Rattle.turn_lock.proofs.Lists.{put, put_here, put_else, in_range, same_at, each_set, each_end, each_one}
+use Rattle.turn_lock.proofs.Lists.{put, put_here, put_else, in_range, element, same_at, each_set, each_end, each_one}
 use Rattle.turn_lock.proofs.Seats.{some_step}
 
 module _ (callers : List AtDoor) (id : ℕ) (v w : AtDoor) (at : get_elem? callers id ≡ some v) where
@@ -168,11 +167,6 @@ comes callers w came called entered c own = record {
 loaded : (words : List ℕ) (i : ℕ) (callers : List AtDoor) → DoorHolds words callers
     → DoorHolds (set words i (get_or words i 0)) callers
 loaded words i callers = subst (λ (ws : List ℕ). DoorHolds ws callers) (sym (set-get_or words i 0))
-
-element : {A : Type 0} (l : List A) (i : ℕ) (a : A) → get_elem? l i ≡ some a → get_or l i a ≡ a
-element [] i a at = absurd (some-ne-none a (sym at))
-element (x ∷ xs) zero a at = some-injective x a at
-element (x ∷ xs) (suc i) a at = element xs i a at
 
 module _ (callers : List AtDoor) (id : ℕ) (v w : AtDoor) (at : get_elem? callers id ≡ some v) where
   counted : came_of (set callers id w) + cond (has_drawn v) 1 0 ≡ came_of callers + cond (has_drawn w) 1 0

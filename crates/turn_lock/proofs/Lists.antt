@@ -1,6 +1,6 @@
 -- Lists read by `get_elem?`, functions changed at one place, and the pigeonhole principle.
 use Rattle.std.proofs.Common.{◌≡◌, ◌≢◌, ℕ, zero, suc, ◌<◌, ◌≤◌, ◌⊎◌, List, [], ◌∷◌, ◌++◌, length}
-use Rattle.std.proofs.Common.{set, sym, refl, ap, ◌∙◌, subst, ⊎_elim, inl, inr, arith, length-set}
+use Rattle.std.proofs.Common.{get_or, set, sym, refl, ap, ◌∙◌, subst, ⊎_elim, inl, inr, arith, length-set}
 use mathlib.Core.Option.{some, some-injective, some-ne-none}
 use native.Mathlib.Decide.{ℕ_discrete}
 use lib.ListN.{get_elem?}
@@ -35,6 +35,11 @@ module _ {A : Type 0} where
   in_range [] i a e = absurd (some-ne-none a (sym e))
   in_range (x ∷ xs) zero a e = omega arith
   in_range (x ∷ xs) (suc i) a e = let h = in_range xs i a e in omega arith
+
+  pub element : (l : List A) (i : ℕ) (a : A) → get_elem? l i ≡ some a → get_or l i a ≡ a
+  element [] i a e = absurd (some-ne-none a (sym e))
+  element (x ∷ xs) zero a e = some-injective x a e
+  element (x ∷ xs) (suc i) a e = element xs i a e
 
   -- an element is the one after the last, or in the list
   pub at_end : (l : List A) (a b : A) (j : ℕ) → get_elem? (l ++ a ∷ []) j ≡ some b
