@@ -39,7 +39,7 @@ cc=${CC-cc}
 for tool in "$cc" ld ar objcopy sed; do
     command -v "$tool" > /dev/null || stop "$tool isn't there; Debian's packages gcc and binutils have it"
 done
-[ -n "$built$object" ] || command -v rt > /dev/null || stop "rt isn't there: the Rattle toolchain's folder bin belongs into PATH"
+[ -n "$built$object" ] || command -v rt > /dev/null || stop "rt isn't there: the Rattle toolchain's folder bin belongs in PATH"
 case $("$cc" -dumpmachine) in
     x86_64-*linux*) ;;
     *) stop "$cc compiles for $("$cc" -dumpmachine); the library is for Linux on x86-64" ;;

@@ -18,7 +18,8 @@ MOST_LINES = 400
 
 
 def faults():
-    if (TOP / "HANDLES").read_text(encoding="utf-8") != HANDLES:
+    file = TOP / "HANDLES"
+    if not file.is_file() or file.read_text(encoding="utf-8", errors="replace") != HANDLES:
         yield "HANDLES isn't its one line"
     for crate in sorted((TOP / "crates").iterdir()):
         for part in ("src", "specs", "proofs"):

@@ -61,7 +61,7 @@ class Stop(Exception):
 def kit():
     found = shutil.which("rt")
     if found is None:
-        raise Stop("rt isn't there: the Rattle toolchain's folder bin belongs into PATH")
+        raise Stop("rt isn't there: the Rattle toolchain's folder bin belongs in PATH")
     return pathlib.Path(found).resolve().parent.parent
 
 

@@ -1,5 +1,5 @@
 #!/usr/bin/env python3
-"""Runs the worked cases and the tools' own tests on programs that are built without proofs, in some two minutes.
+"""Runs the worked cases and the tools' own tests on programs that are built without proofs, in one to two minutes.
 
 usage: tools/quick_tests.py [--built] [--jobs N]
 
