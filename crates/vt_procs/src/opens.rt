@@ -1,6 +1,8 @@
 ghost use Rattle.std.specs.Prelude.{◌≡◌, ◌<◌, IfSome, is_some, length, slice_index_or, slice_set, Some, None, if◌then◌else◌};
 ghost use Rattle.vt_procs.specs.Callers.{has_open, is_console, lowest_free, with_open};
 
+mod same;
+
 use std::marker::Model;
 use vt_base::{ConsoleNo, DESCRIPTORS, Fd};
 

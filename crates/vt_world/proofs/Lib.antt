@@ -4,11 +4,13 @@ mod Alters
 mod Answered
 mod Bells
 mod Called
+pub mod Copied
 mod Cores
 mod Displays
 mod Freed
 pub mod Histories
 mod Lives
+mod Mapping
 mod Masks
 mod Moments
 mod Opening

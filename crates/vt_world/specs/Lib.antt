@@ -13,6 +13,7 @@ pub mod Start
 pub mod State
 pub mod Step
 pub mod StepLaws
+pub mod TableLaws
 pub mod Tapes
 pub mod Terminals
 pub mod Typing

@@ -10,6 +10,7 @@ mod laws;
 mod rows;
 mod spare;
 mod step;
+mod table_laws;
 mod terminal;
 mod terminals;
 mod trace;
@@ -22,5 +23,6 @@ pub use laws::{
     tickets_are_called, traces_tell_news,
 };
 pub use spare::{Spare, spare_for, spare_from};
+pub use table_laws::tables_stay;
 pub use vt_switch::{Hop, Mark};
 pub use world::World;

@@ -8,6 +8,9 @@ ghost use Rattle.vt_world.specs.Start.{start_world};
 ghost use Rattle.vt_world.specs.State.{core, is_waiting};
 ghost use Rattle.vt_world.specs.Terminals.{bells_of, machine_of, terminal_at};
 
+mod getters;
+mod same;
+
 use crate::inputs::Inputs;
 use crate::keyboard_set::KeyboardSet;
 use crate::terminals::Terminals;
