@@ -2,6 +2,7 @@
 //! after a machine or a session is made, since each would have to drop it: so a test is proved in seconds.
 mod copies;
 mod deaths;
+mod machines;
 mod marks;
 mod row;
 mod seen;

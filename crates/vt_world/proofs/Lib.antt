@@ -1,3 +1,4 @@
+mod Admissions
 pub mod Ages
 pub mod Allocation
 mod Alters
@@ -21,6 +22,7 @@ mod Quiet
 mod Refused
 mod Requests
 mod Reruns
+mod Rights
 mod Screens
 mod Sizes
 mod Stays

@@ -7,6 +7,7 @@ pub mod Inputs
 pub mod Laws
 pub mod RefusalLaws
 pub mod Refusals
+pub mod Rights
 pub mod Rows
 pub mod Spare
 pub mod Start
