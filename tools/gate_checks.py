@@ -41,6 +41,7 @@ CHECKS = [
     ("check_hostile", ["tools/check_hostile.py"]),
     ("make_conformance --check", ["tools/make_conformance.py", "--check"]),
     ("check_watch", ["tools/check_watch.py", "40"]),
+    ("check_explore", ["tools/check_explore.py"]),
     ("check_timeline", ["tools/check_timeline.py"]),
     ("check_keymaps", ["tools/check_keymaps.py"]),
     ("check_expect", ["tools/check_expect.py"]),
