@@ -10,7 +10,7 @@ ghost use Rattle.turn_lock.specs.declared.view.Role.TheVariants.{Caller};
 ghost use Rattle.std.proofs.Common.{rules};
 ghost use Rattle.turn_lock.specs.declared.entry.Entry.{Entry};
 
-use crate::{Kept, Pass, TurnLock};
+use turn_lock::{Kept, Pass, TurnLock};
 use std::alloc::Global;
 use std::sync::Wait;
 use std::test::Fail;

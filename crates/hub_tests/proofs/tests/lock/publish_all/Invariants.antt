@@ -1,7 +1,7 @@
 use Rattle.std.proofs.Common.{◌≡◌, length}
 use Rattle.turn_lock.specs.declared.view.Role.TheVariants.{Caller}
 use Rattle.turn_lock.specs.Words.{view, RestsIn}
-use Rattle.turn_lock.proofs.tests.publish_all.Given as goal
+use Rattle.hub_tests.proofs.tests.lock.publish_all.Given as goal
 
 abbrev pub invariant-loop-seq : goal.invariant-loop-seq
 invariant-loop-seq g l = RestsIn l.lock l.pass × ((view l.pass).role ≡ Caller l.by)

@@ -1,10 +1,13 @@
-use Rattle.std.proofs.Common.{◌≡◌, ℕ, [], ◌∷◌, ◌++◌, map, ap, ◌∙◌, rules}
+use Rattle.std.proofs.Common.{◌≡◌, ℕ, List, [], ◌∷◌, ◌++◌, map, refl, ap, ◌∙◌, rules}
 use Rattle.std.proofs.lemmas.List.{map-append}
 use Rattle.turn_lock.specs.declared.entry.Entry.{Entry}
-use Rattle.turn_lock.specs.declared.tests.Line.{Line}
+use Rattle.hub_tests.specs.declared.tests.lock.Line.{Line}
 use Rattle.turn_lock.specs.History.{display_after}
-use Rattle.turn_lock.proofs.Histories.{display_end}
-use Rattle.turn_lock.proofs.tests.Lines.add.Goals as goal
+use Rattle.hub_tests.proofs.tests.lock.Lines.add.Goals as goal
+
+display_end : (before : ℕ) (log : List (Entry ℕ)) (e : Entry ℕ) → display_after before (log ++ e ∷ []) ≡ e.display
+display_end before [] e = refl
+display_end before (x ∷ xs) e = display_end x.display xs e
 
 pub invariant_of-self-2 : goal.invariant_of-self-2
 invariant_of-self-2 c =
