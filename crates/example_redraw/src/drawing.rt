@@ -1,4 +1,7 @@
 //! The screen that an input makes, as the text that draws it again.
+ghost use Rattle.std.specs.Prelude.{IfOk};
+ghost use Rattle.example_redraw.specs.Drawn.{IsDrawn};
+ghost use Rattle.vt_screen.specs.Run.{after, start};
 
 use std::alloc::Global;
 use vt_base::{Bytes, NoMemory, Size};
@@ -15,7 +18,9 @@ pub(crate) enum Drawing {
 }
 
 /// Runs the input on a screen of this size, and draws the screen that it makes.
-pub(crate) fn drawn(alloc: Global, size: Size, input: &[u8]) -> Result<Drawing, NoMemory> {
+pub(crate) fn drawn(alloc: Global, size: Size, input: &[u8]) -> Result<Drawing, NoMemory>
+    ensures { IfOk result (IsDrawn (after (start size.rows size.cols) input.now).state) }
+{
     let mut emu = Emu::new(Grid::blank(alloc, size, BLANK)?);
     emu.write(input);
     if !redrawable(&emu) {

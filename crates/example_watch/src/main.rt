@@ -2,8 +2,8 @@
 //!
 //!     watch [json] < FILE
 //!
-//! FILE is a session, or a session and a journal after it. Without a journal the program plays the session. It ends with the
-//! statuses of `vt check`.
+//! FILE is a session, or a session and a journal after it. Without a journal the program plays the session. It ends
+//! with the statuses of `vt check`.
 #![tactic(auto)]
 
 mod adding;

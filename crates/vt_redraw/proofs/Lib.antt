@@ -17,6 +17,7 @@ mod PlainPens
 mod PlainTable
 mod Prints
 mod Reached
+mod ReachedCells
 mod Redrawing
 mod Rows
 mod Sheets

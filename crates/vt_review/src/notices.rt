@@ -76,7 +76,6 @@ pub(crate) fn tell_row<F: Listener>(
     ensures { OnOk result (text.new.bytes
         ≡ text.old.bytes ++ ear_lines 0 e ears.now (row_told console y (row_text (row_at screen.now y)))) }
 {
-    let _ = e;
     for a in 0..ears.len() {
         if ears[a].ask(Notice { kind: ROW, console }) {
             add_row_line(alloc, text, a, words, screen, y)?;

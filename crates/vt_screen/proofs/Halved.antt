@@ -1,7 +1,6 @@
 -- Each case of the effect table keeps the property of rows that their edits keep.
 use Rattle.std.proofs.Common.{◌≡◌, ℕ, ◌+◌, ◌-◌, ◌==◌, ◌&&◌, ◌||◌, Bool, true, false, List, [], ◌∷◌, ◌++◌, take, drop, replicate, min, nat_lt, nat_le, refl, cond}
 use Rattle.std.proofs.lemmas.List.Elements.{All-append, All-drop, All-take}
-use Rattle.vt_cells.specs.Width.{half}
 use Rattle.vt_cells.specs.declared.cell.Cell.{Cell}
 use Rattle.vt_grid.specs.Grid.{cells_of_codes}
 use Rattle.vt_screen.proofs.Edits.{Each, Edits}
@@ -14,15 +13,15 @@ use Rattle.vt_screen.specs.Saying.{Effect, console_setting, device_report, light
 use Rattle.vt_screen.specs.Screen.{Screen, blank_of, pen_byte}
 use Rattle.vt_screen.specs.Settings.{alignment_pattern, clear_stops, each, after_shift, after_sgr, reset, restore, save, set_stop, with_coding, with_colour, with_g0, with_g1, with_keypad, with_mode, with_private_mode, with_region, with_start_palette}
 
--- none of these codes is that of a half
-abbrev pub NoHalves : List ℕ → Type 0
-NoHalves [] = Unit {0}
-NoHalves (code ∷ codes) = ((code == half) ≡ false) × NoHalves codes
+-- each of these codes has the property
+abbrev pub HaveCodes : (ℕ → Type 0) → List ℕ → Type 0
+HaveCodes Code [] = Unit {0}
+HaveCodes Code (code ∷ codes) = Code code × HaveCodes Code codes
 
-module _ (Row : List Cell → Type 0) where
-  -- each row has it, and the user's table has no half
+module _ (Row : List Cell → Type 0) (Code : ℕ → Type 0) where
+  -- each row has its property, and each code of the user's table has its own
   abbrev pub HasHalves : Screen → Type 0
-  HasHalves s = Each Row s.grid × NoHalves s.state.map
+  HasHalves s = Each Row s.grid × HaveCodes Code s.state.map
 
   -- the cells of such a character have it
   abbrev pub Draws : ℕ → ℕ → Type 0
@@ -36,13 +35,13 @@ module _ (Row : List Cell → Type 0) where
   either-done true s t first second = first
   either-done false s t first second = second
 
-  module _ (law : Edits Row) where
+  module _ (Blank : Cell → Type 0) (law : Edits Blank Row) (blank : (c : Cell) → nat_lt c.code 0x7F ≡ true → Blank c) where
     -- what moves the cursor and scrolls
     region-up : (s : Screen) → HasHalves s → HasHalves (region_up s)
-    region-up s h = (law.scrolling_up s.grid s.state.top s.state.bottom 1 (blank_of s) h.0 refl, h.1)
+    region-up s h = (law.scrolling_up s.grid s.state.top s.state.bottom 1 (blank_of s) h.0 (blank (blank_of s) refl), h.1)
 
     region-down : (s : Screen) → HasHalves s → HasHalves (region_down s)
-    region-down s h = (law.scrolling_down s.grid s.state.top s.state.bottom 1 (blank_of s) h.0 refl, h.1)
+    region-down s h = (law.scrolling_down s.grid s.state.top s.state.bottom 1 (blank_of s) h.0 (blank (blank_of s) refl), h.1)
 
     line-feed : (s : Screen) → HasHalves s → HasHalves (linefeed s)
     line-feed s h =
@@ -58,13 +57,13 @@ module _ (Row : List Cell → Type 0) where
 
     -- what erases, inserts and deletes
     line-erased : (x0 x1 : ℕ) (s : Screen) → HasHalves s → HasHalves (line_erased x0 x1 s)
-    line-erased x0 x1 s h = (law.erasing s.grid s.state.y x0 x1 (blank_of s) h.0 refl, h.1)
+    line-erased x0 x1 s h = (law.erasing s.grid s.state.y x0 x1 (blank_of s) h.0 (blank (blank_of s) refl), h.1)
 
     cells-inserted : (n : ℕ) (s : Screen) → HasHalves s → HasHalves (cells_inserted n s)
-    cells-inserted n s h = (law.inserting s.grid s.state.y s.state.x _ n (blank_of s) h.0 refl, h.1)
+    cells-inserted n s h = (law.inserting s.grid s.state.y s.state.x n (blank_of s) h.0 (blank (blank_of s) refl), h.1)
 
     cells-deleted : (n : ℕ) (s : Screen) → HasHalves s → HasHalves (cells_deleted n s)
-    cells-deleted n s h = (law.deleting s.grid s.state.y s.state.x n (blank_of s) h.0 refl, h.1)
+    cells-deleted n s h = (law.deleting s.grid s.state.y s.state.x n (blank_of s) h.0 (blank (blank_of s) refl), h.1)
 
     rows-erased : (from count : ℕ) (s : Screen) → HasHalves s → HasHalves (rows_erased from count s)
     unfolding rows_erased
@@ -73,7 +72,7 @@ module _ (Row : List Cell → Type 0) where
           (replicate count (replicate s.grid.cols (blank_of s)) ++ drop (from + count) s.grid.cells)
           (All-take Row from s.grid.cells h.0)
           (All-append Row (replicate count (replicate s.grid.cols (blank_of s))) (drop (from + count) s.grid.cells)
-          (law.filling count s.grid.cols (blank_of s) refl) (All-drop Row (from + count) s.grid.cells h.0)),
+          (law.filling count s.grid.cols (blank_of s) (blank (blank_of s) refl)) (All-drop Row (from + count) s.grid.cells h.0)),
       h.1,
     )
 
@@ -110,21 +109,21 @@ module _ (Row : List Cell → Type 0) where
     lines-inserted : (n : ℕ) (s : Screen) → HasHalves s → HasHalves (insert_lines n s)
     unfolding insert_lines
     lines-inserted n s h =
-        either (in_region s) _ s (law.scrolling_down s.grid s.state.y s.state.bottom n (blank_of s) h.0 refl, h.1) h
+        either (in_region s) _ s (law.scrolling_down s.grid s.state.y s.state.bottom n (blank_of s) h.0 (blank (blank_of s) refl), h.1) h
 
     lines-deleted : (n : ℕ) (s : Screen) → HasHalves s → HasHalves (delete_lines n s)
     unfolding delete_lines
     lines-deleted n s h =
-        either (in_region s) _ s (law.scrolling_up s.grid s.state.y s.state.bottom n (blank_of s) h.0 refl, h.1) h
+        either (in_region s) _ s (law.scrolling_up s.grid s.state.y s.state.bottom n (blank_of s) h.0 (blank (blank_of s) refl), h.1) h
 
     -- what makes the screen anew
     screen-reset : (s : Screen) → HasHalves s → HasHalves (reset s)
     unfolding reset
-    screen-reset s h = (law.filling s.grid.rows s.grid.cols _ refl, h.1)
+    screen-reset s h = (law.filling s.grid.rows s.grid.cols _ (blank _ refl), h.1)
 
     screen-aligned : (s : Screen) → HasHalves s → HasHalves (alignment_pattern s)
     unfolding alignment_pattern
-    screen-aligned s h = (law.filling s.grid.rows s.grid.cols _ refl, h.1)
+    screen-aligned s h = (law.filling s.grid.rows s.grid.cols _ (blank _ refl), h.1)
 
     -- printing
     put : (w code : ℕ) (s : Screen) → Draws w code → HasHalves s → HasHalves (with_cells_at_cursor (codes_drawn w code) s)

@@ -2,6 +2,7 @@ mod Asking
 mod AskingTable
 mod AskingTexts
 mod Changes
+mod CharacterRows
 mod Controls
 mod Cuts
 mod Edits
@@ -17,11 +18,13 @@ mod Prefixes
 mod Printed
 mod PutBack
 mod Quiet
+mod RowEdits
 mod Scrolled
 mod Sequences
 mod Shown
 mod Spread
 mod Start
+mod TapeCharacters
 mod TapeHalves
 mod TapeInside
 mod Tapes

@@ -1,5 +1,6 @@
 pub mod Asking
 pub mod ChangedRows
+pub mod Characters
 pub mod Cursor
 pub mod Effect
 pub mod Erasing

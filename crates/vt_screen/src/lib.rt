@@ -21,8 +21,8 @@ mod write;
 
 pub use emu::{BLANK, Emu, FEED_BYTES};
 pub use laws::{
-    any_cut, halves_follow_wide, pieces_draw, requests_are_few, tapes_keep_halves, tapes_run,
-    texts_are_cut,
+    any_cut, halves_follow_wide, pieces_draw, requests_are_few, tapes_keep_characters,
+    tapes_keep_halves, tapes_run, texts_are_cut,
 };
 pub use listener::Listener;
 pub use out::Out;

@@ -1,6 +1,7 @@
 ghost use Rattle.std.specs.Prelude.{◌≡◌, ◌≤◌, ◌↔◌, IfOk, OnErr, IsTrue, Some, None, is_some, length, option_map, if◌then◌else◌};
 ghost use Rattle.vt_events.specs.Charge.{greatest_reply, text_of_reply};
 ghost use Rattle.vt_events.specs.Plain.{plain_reply};
+ghost use Rattle.vt_world.specs.Lent.{buffer_after};
 ghost use Rattle.vt_world.specs.Spare.{Fits, HasGrid, IsFit, IsTaken, empty_with, extent, extent_of, is_extent, needed_grid, no_spare};
 
 use std::alloc::Global;
@@ -56,7 +57,10 @@ impl Spare {
     /// spare. This call takes no memory.
     pub fn copy(&mut self, reply: &Reply) -> Reply
         requires { length (text_of_reply reply.now) ≤ self.old.unused.room }
-        ensures { plain_reply result ≡ plain_reply reply.now }
+        ensures answer { plain_reply result ≡ plain_reply reply.now }
+        ensures grid { self.new.grid ≡ self.old.grid }
+        ensures reply { self.new.reply ≡ self.old.reply }
+        ensures unused { self.new.unused ≡ buffer_after reply.now self.old.unused }
     {
         let empty = Bytes::new(self.alloc);
         let room = match reply {
@@ -69,6 +73,7 @@ impl Spare {
     // Takes the buffer for the answer.
     pub(crate) fn take_reply(&mut self) -> Bytes
         ensures reply { result ≡ self.old.reply }
+        ensures taken { self.new.reply ≡ empty_with 0 }
         ensures grid { self.new.grid ≡ self.old.grid }
         ensures unused { self.new.unused ≡ self.old.unused }
     {

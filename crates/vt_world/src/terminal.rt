@@ -68,7 +68,8 @@ impl Terminal {
 
     /// Resizes the screen onto this grid. Returns the old grid.
     pub(crate) fn resize(&mut self, grid: Grid) -> Grid
-        ensures { self.new ≡ altered_by (resize grid.rows grid.cols) self.old }
+        ensures terminal { self.new ≡ altered_by (resize grid.rows grid.cols) self.old }
+        ensures old { result ≡ self.old.machine.state.grid }
     {
         self.emu.resize(grid)
     }

@@ -1,7 +1,7 @@
 use Rattle.std.proofs.Common.{◌≡◌, List, subst}
 use Rattle.key_machine.proofs.Unplugging.{four_all}
 use Rattle.key_machine.specs.Keys.{Down, without_keyboard}
-use Rattle.key_machine.proofs.held.HeldKeys.has_four.Goals as goal
+use Rattle.key_machine.proofs.held.HeldKeys.others_are_up.Goals as goal
 
 pub returns : goal.returns
 returns c =
