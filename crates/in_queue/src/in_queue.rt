@@ -3,6 +3,8 @@ ghost use Rattle.std.specs.Bool.{OnFalse, OnTrue};
 ghost use Rattle.in_queue.specs.Queue.{empty, with_drop, with_piece, without_front};
 ghost use Rattle.vt_base.specs.Limits.{piece_bytes};
 
+mod same;
+
 use circular_buffer::HeapCircularBuffer;
 use std::alloc::Global;
 use std::marker::Model;

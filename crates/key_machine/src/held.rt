@@ -3,6 +3,8 @@ ghost use Rattle.key_machine.specs.Held.{left_to, modifier_of};
 ghost use Rattle.key_machine.specs.Keys.{recorded_action, weight_of, with_key, without_key, without_keyboard};
 ghost use Rattle.key_machine.specs.Step.{was_modifier};
 
+mod same;
+
 use key_syms::{Action, KEYCODES, kind};
 use std::marker::Model;
 use vt_base::KeyboardNo;

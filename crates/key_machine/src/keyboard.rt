@@ -5,6 +5,8 @@ ghost use Rattle.key_machine.specs.ShortOuts.{out_with};
 ghost use Rattle.key_machine.specs.Step.{action_step, key_step, number_bytes, number_with, acting_press_step, press_step, release_step, special, step, types};
 ghost use Rattle.key_tables.specs.Tables.{Tables};
 
+mod same;
+
 use crate::accents::{accent_of, character, dead};
 use crate::actions::{
     action_of, acts_in, idle_out, is_on, modifier_weight, num_lock, repeats, send_idle, spend,

@@ -3,6 +3,8 @@ ghost use Rattle.std.specs.Option.{option_map};
 ghost use Rattle.key_tables.specs.Listing.{listing_of};
 ghost use Rattle.key_tables.specs.Tables.{IsEmpty, IsWhole, entry_of, exists_in, found_in, func_of, with_entry, with_func, with_pairs};
 
+mod same;
+
 use crate::func_text::FuncText;
 use crate::listing;
 use crate::maps::Maps;

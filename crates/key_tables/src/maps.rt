@@ -2,6 +2,8 @@ ghost use Rattle.std.specs.Prelude.{◌≡◌, ◌≢◌, ◌≤◌, ◌++◌, �
 ghost use Rattle.std.specs.Option.{option_copied, option_map};
 ghost use Rattle.key_tables.specs.Tables.{AreHoles, AreMaps, hole};
 
+mod same;
+
 use crate::table::Table;
 use key_syms::{Action, TABLE_COUNT};
 use std::alloc::Global;

@@ -1,6 +1,8 @@
 ghost use Rattle.std.specs.Prelude.{◌≡◌, ◌≢◌, replicate, slice_index_or, slice_set, IfOk};
 ghost use Rattle.key_tables.specs.Tables.{IsMap, hole};
 
+mod same;
+
 use key_syms::{Action, KEYCODES, kind};
 use std::alloc::{AllocError, Global};
 use std::marker::Model;

@@ -3,6 +3,8 @@ ghost use Rattle.scan_codes.specs.Groups.{Begins, is_down, is_group, is_scan, ke
 ghost use Rattle.scan_codes.specs.ScanPrefix.{IsTranslation, bytes_of};
 ghost use Rattle.scan_codes.specs.Scan.{bytes_after, event_after, start_scan, with_code};
 
+mod same;
+
 use crate::KeyEvent;
 use crate::start::start_code;
 use std::marker::Model;

@@ -1,6 +1,8 @@
 pub mod Callers
+mod Forgetting
 pub mod Lively
 pub mod Meant
+pub mod Orders
 pub mod Programs
 pub mod Races
 pub mod Progress

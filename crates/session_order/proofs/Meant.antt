@@ -42,7 +42,7 @@ pub step_meant : (w : WorldState) (p : ℕ) (e : Event) → step w p (plain_even
 step_meant w p event.Exit = refl
 step_meant w p e = refl
 
-wait_meant : (e : Event) → ends_wait (plain_event e) ≡ ends_wait e
+pub wait_meant : (e : Event) → ends_wait (plain_event e) ≡ ends_wait e
 wait_meant event.Exit = refl
 wait_meant e = refl
 
@@ -67,16 +67,16 @@ calls_meant p (entry ∷ entries) =
     elim (entry.caller == p) as (λ b. map call_of (cond b (plain_entry entry ∷ filter (λ (x : Entry). x.caller == p) (plain_history entries)) (filter (λ (x : Entry). x.caller == p) (plain_history entries))) ≡ map call_of (cond b (entry ∷ filter (λ (x : Entry). x.caller == p) entries) (filter (λ (x : Entry). x.caller == p) entries)))
     [ true ↦ (λ i. call_meant entry i ∷ calls_meant p entries i) | false ↦ calls_meant p entries ]
 
-counts_meant : (p : ℕ) (entries : List Entry)
+pub counts_meant : (p : ℕ) (entries : List Entry)
     → count_by (λ (x : Entry). x.caller == p) (plain_history entries) ≡ count_by (λ (x : Entry). x.caller == p) entries
 counts_meant p entries =
     fold-map (λ n (x : Entry). n + cond (x.caller == p) 1 0) plain_entry 0 entries
 
-next_meant : (programs : List Program) (p : ℕ) (entries : List Entry)
+pub next_meant : (programs : List Program) (p : ℕ) (entries : List Entry)
     → next_by programs p (plain_history entries) ≡ next_by programs p entries
 next_meant programs p entries = ap (next_of (program_of programs p)) (calls_meant p entries)
 
-waiting_meant : (start : WorldState) (p : ℕ) (entries : List Entry)
+pub waiting_meant : (start : WorldState) (p : ℕ) (entries : List Entry)
     → is_waiting (replay start (plain_history entries)) p ≡ is_waiting (replay start entries) p
 waiting_meant start p entries = ap (λ w. is_waiting w p) (replay_meant start entries)
 

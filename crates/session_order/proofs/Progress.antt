@@ -77,7 +77,7 @@ has_next : (program : Option Program) → (next_of program [] ≡ None) → prog
 has_next None none = refl
 has_next (Some program) none = absurd ((next_alive program).starts none)
 
-lively_start : (programs : List Program) (keyboards : ℕ) (starts : List ProcStart)
+pub lively_start : (programs : List Program) (keyboards : ℕ) (starts : List ProcStart)
     → ArePrograms (length starts) keyboards programs → IsLively programs [] (callers_of keyboards starts)
 lively_start programs keyboards starts are =
     let c : Callers = callers_of keyboards starts in
@@ -96,7 +96,7 @@ lively_start programs keyboards starts are =
       walked = λ q program is. tt;
     }
 
-replay_more : (start : WorldState) (h : List Entry) (entry : Entry)
+pub replay_more : (start : WorldState) (h : List Entry) (entry : Entry)
     → replay start (h ++ entry ∷ []) ≡ (step (replay start h) entry.caller entry.event).world
 replay_more start [] entry = refl
 replay_more start (first ∷ h) entry =

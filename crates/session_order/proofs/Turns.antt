@@ -61,7 +61,7 @@ pub data TurnDoes (o : Setup) (p : ℕ) (h : List Entry) : Played → Type 0 whe
   FindsFull : (e : Event) → is_waiting (replay o.start h) p ≡ false → next_by o.programs p h ≡ Some e → has_room o.limits h (charge_of e) ≡ false → TurnDoes o p h (record { history = h; stop = Some (full_at h (charge_of e)) })
 
 -- a call that p can make is its next one, and it doesn't wait
-now_is : (waits : Bool) (next : Option Event) (e : Event)
+pub now_is : (waits : Bool) (next : Option Event) (e : Event)
     → (if waits then None else next) ≡ Some e → (waits ≡ false) × (next ≡ Some e)
 now_is true next e is = absurd (none-some e is)
 now_is false next e is = (refl, is)

@@ -3,6 +3,7 @@ pub mod Ends
 pub mod Follows
 pub mod Laws
 pub mod Meant
+pub mod Orders
 pub mod Races
 pub mod Serial
 pub mod Sessions

@@ -37,6 +37,13 @@ impl Counts {
         self.places[usize::from(caller.get())]
     }
 
+    /// Becomes the other.
+    pub(crate) fn copy_from(&mut self, other: &Counts)
+        ensures { self.new ≡ other.now }
+    {
+        self.places = other.places;
+    }
+
     /// Counts one more call of the caller. The greatest count doesn't rise.
     pub(crate) fn add(&mut self, caller: CallerNo)
         ensures { self.new ≡ slice_set self.old caller

@@ -1,6 +1,7 @@
 //! Laws of a session's calls: of the serial schedule, and of a race.
 ghost use Rattle.session_order.specs.Laws.{FinishedStays, RoundsAddUp, RoundsGoOn, SerialEnds, SerialIsOne, SerialIsRight};
 ghost use Rattle.session_order.specs.Meant.{EndsIsMeant, FollowsIsMeant, LegalIsMeant, NextIsMeant, NextIsPlain, ReplayIsMeant};
+ghost use Rattle.session_order.specs.Orders.{EntriesAreTurns, HistoriesAreOrders, OrdersAreLegal};
 ghost use Rattle.session_order.specs.Races.{RaceIsRight, RunsGrow};
 
 /// The schedule plays one history, which is legal, follows the programs and ends. From a start of the machine
@@ -29,4 +30,13 @@ pub fn meant_laws()
 pub fn race_laws()
     ensures grows { RunsGrow }
     ensures right { RaceIsRight }
+{}
+
+/// Orders and histories: the history of an order is legal and follows the programs, and a legal history that
+/// follows the programs is that of the order of its callers. So is each part of it up to an entry, and the
+/// entry is the next turn of its caller.
+pub fn order_laws()
+    ensures legal { OrdersAreLegal }
+    ensures histories { HistoriesAreOrders }
+    ensures turns { EntriesAreTurns }
 {}

@@ -7,6 +7,6 @@ mod laws;
 mod session_progress;
 mod sessions;
 
-pub use laws::{meant_laws, race_laws, serial_laws};
+pub use laws::{meant_laws, order_laws, race_laws, serial_laws};
 pub use session_progress::SessionProgress;
 pub use sessions::{session_laws, start_of};

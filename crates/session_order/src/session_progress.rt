@@ -9,6 +9,8 @@ ghost use Rattle.vt_events.specs.Plain.{plain_event, plain_reply};
 ghost use Rattle.vt_events.specs.declared.entry.Entry.{Entry};
 ghost use Rattle.vt_events.specs.declared.event.Event.{Event};
 
+mod same;
+
 use crate::counts::Counts;
 use crate::laws::meant_laws;
 use session_text::{Program, Walk};

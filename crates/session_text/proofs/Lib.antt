@@ -2,6 +2,7 @@ pub mod Acts
 pub mod Collected
 pub mod Consoles
 pub mod Counting
+mod Forgetting
 pub mod FurtherReading
 pub mod HookWords
 pub mod Hooking

@@ -7,6 +7,8 @@ ghost use Rattle.session_text.specs.Walks.{Advances, HasActs, Stands, ahead};
 ghost use Rattle.session_text.specs.declared.program.Program.{Program};
 ghost use Rattle.session_text.specs.declared.program.Program.TheVariants as programs;
 
+mod same;
+
 use crate::acting::{act_call, first_act};
 use crate::answers::{ends, is_gone, signals_in};
 use crate::asks::Asks;
@@ -16,6 +18,9 @@ use std::alloc::Global;
 use std::marker::Model;
 use vt_base::{Bytes, NoMemory, SigSet};
 use vt_events::{Event, Reply};
+
+/// The signal from which no act is left: one past the greatest.
+const NO_SIGNAL: u16 = 65;
 
 /// A walk through a program, one call after another. It stands for the calls that were made so far.
 #[derive(Drop)]
@@ -55,7 +60,7 @@ impl Walk {
             item: 0,
             taking: false,
             given: SigSet::empty(),
-            signal: 65,
+            signal: NO_SIGNAL,
             waiting: false,
             over: false,
         }

@@ -1,6 +1,8 @@
 ghost use Rattle.std.specs.Prelude.{◌≡◌, ◌<◌, length, slice_get, slice_set, Some};
 ghost use Rattle.vt_cells.specs.Colours.{start_palette};
 
+mod same;
+
 use crate::rgb_of;
 use std::marker::Model;
 

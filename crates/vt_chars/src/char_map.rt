@@ -1,6 +1,8 @@
 ghost use Rattle.std.specs.Prelude.{◌≡◌, ◌<◌, EachIndex, length, slice_index};
 ghost use Rattle.vt_chars.specs.CharMap.{char_of, font_place};
 
+mod same;
+
 use crate::graphics::graphic;
 use std::marker::Model;
 

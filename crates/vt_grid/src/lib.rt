@@ -10,6 +10,7 @@ mod packed_cell;
 mod resize;
 mod row_cells;
 pub mod rows;
+mod same;
 
 pub use grid::Grid;
 pub use row_cells::RowCells;

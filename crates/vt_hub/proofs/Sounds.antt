@@ -17,7 +17,7 @@ use Rattle.vt_hub.proofs.Lists.{each_more, made_other, made_own, plain_waits, wa
 use Rattle.turn_lock.specs.declared.seal.Seal.{Seal}
 use Rattle.vt_journal.specs.declared.full.Full.{Full}
 use Rattle.vt_journal.specs.declared.limits.Limits.{Limits}
-use Rattle.vt_world.specs.History.{IsLegal, IsNext, LegalGrows, ReplayGrows, replay}
+use Rattle.vt_world.specs.History.{IsEntryOf, Leaves, StepsAreEntered, replay}
 use Rattle.vt_world.specs.State.{WorldState, is_waiting}
 use Rattle.vt_world.specs.Step.{HasOutcome, Outcome, step}
 use Rattle.vt_world.specs.StepLaws.{SizesStay, TicketsAreCalled}
@@ -45,31 +45,21 @@ open_after called v w p e r gives old new before_is is q process =
     both true x h = h refl
     both false x h = refl
 
--- the entry is that of the call e of caller p, and so are its answer and its number
-pub record IsEntryOf (p seq : ℕ) (e : Event) (r : Reply) (entry : Entry) : Type 0 where
-  pub caller : entry.caller ≡ p
-  pub number : entry.seq ≡ seq
-  pub event : entry.event ≡ e
-  pub reply : plain_reply entry.reply ≡ plain_reply r
-
 module _ (start : WorldState) (most : Limits) (v w : SharedView) (p seq : ℕ) (e : Event) (r : Reply)
     (entry : Entry) (of : IsEntryOf p seq e r entry) (gives : HasOutcome (step v.world p e) w.world r)
     (sound : IsSound start most v) where
-  stepped : step (replay start v.log.entries) entry.caller entry.event
-      ≡ record { world = w.world; reply = plain_reply r }
-  stepped =
-      ap (λ x. step x entry.caller entry.event) (sym sound.replayed)
-      ∙ (ap (λ c. step v.world c entry.event) of.caller
-      ∙ (ap (λ x. step v.world p x) of.event ∙ gives))
-
-  next : seq ≡ length (made_by p v.log.entries) → IsNext start v.log.entries entry
-  next counted = record {
-    answer = of.reply ∙ sym (ap (λ (o : Outcome). o.reply) stepped);
-    number = of.number ∙ (counted
-        ∙ (length-filter (λ (x : Entry). x.caller == p) v.log.entries
-        ∙ ap (λ (c : ℕ). count_by (λ (x : Entry). x.caller == c) v.log.entries)
-        (sym of.caller)));
-  }
+  left : StepsAreEntered → seq ≡ length (made_by p v.log.entries) → w.log.entries ≡ v.log.entries ++ entry ∷ []
+      → Leaves start w.log.entries w.world
+  left entered counted more =
+      let its : IsEntryOf p (count_by (λ (x : Entry). x.caller == p) v.log.entries) e r entry = record {
+        caller = of.caller;
+        number = of.number ∙ (counted ∙ length-filter (λ (x : Entry). x.caller == p) v.log.entries);
+        event = of.event;
+        reply = of.reply;
+      } in
+      subst (λ (l : List Entry). Leaves start l w.world) (sym more)
+      (entered start v.world w.world v.log.entries p e r entry
+      (record { legal = sound.legal; replayed = sound.replayed }) gives its)
 
   -- a caller with an open ticket then was answered "wait" last
   waits : TicketsAreCalled → is_waiting v.world p ≡ false → (q : ℕ)
@@ -94,18 +84,17 @@ module _ (start : WorldState) (most : Limits) (v w : SharedView) (p seq : ℕ) (
       ∙ (sym (plain_waits entry.reply) ∙ ap is_wait answer)))
       (called v.world p e q (ap (λ (x : WorldState). is_waiting x q) world ∙ opened))
 
-  pub enters : LegalGrows → ReplayGrows → SizesStay → TicketsAreCalled
+  pub enters : StepsAreEntered → SizesStay → TicketsAreCalled
       → is_waiting v.world p ≡ false → seq ≡ length (made_by p v.log.entries)
       → w.log.entries ≡ v.log.entries ++ entry ∷ [] → w.log.limits ≡ v.log.limits
       → w.stop ≡ None → 0 < w.world.display.front → w.world.display.front < 64
       → ((q : ℕ) → IsProcess q → has_process w.waits q ≡ (is_waiting w.world q && (q == p || has_process v.waits q)))
       → IsSound start most w
-  enters grows grown sizes called free counted more limits goes_on low high opened =
-      let es : List Entry = v.log.entries in record {
-        legal = subst (IsLegal start) (sym more)
-            (grows start es entry sound.legal (next counted));
-        replayed = sym (ap (replay start) more
-            ∙ (grown start es entry ∙ ap (λ (o : Outcome). o.world) stepped));
+  enters entered sizes called free counted more limits goes_on low high opened =
+      let es : List Entry = v.log.entries in
+      let after : Leaves start w.log.entries w.world = left entered counted more in record {
+        legal = after.legal;
+        replayed = after.replayed;
         free = subst (λ (l : List Entry). IsFree start l) (sym more)
             (each_more (λ before x. is_waiting (replay start before) x.caller ≡ false) es entry
             sound.free (ap (λ (x : WorldState). is_waiting x entry.caller) (sym sound.replayed)

@@ -9,5 +9,6 @@ pub mod Readers
 pub mod Replies
 pub mod Room
 pub mod Says
+pub mod SingleLines
 pub mod Text
 pub mod Words

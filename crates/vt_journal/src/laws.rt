@@ -1,5 +1,6 @@
 //! Laws of the texts of calls and journals.
 ghost use Rattle.vt_journal.specs.Says.{OneJournal, PrintedIsRead};
+ghost use Rattle.vt_journal.specs.SingleLines.{EntriesAreLines, LinesFollow, LinesMakeTheText};
 ghost use Rattle.vt_journal.specs.Words.{CallsAreCut, OneCall};
 
 /// A text is at most one call, and its words are those of that call.
@@ -12,4 +13,12 @@ pub fn one_call()
 pub fn one_journal()
     ensures one { OneJournal }
     ensures printed { PrintedIsRead }
+{}
+
+/// A journal can be written line by line: its text is the first line, the line of each entry, and the
+/// last line.
+pub fn lines_make_the_text()
+    ensures text { LinesMakeTheText }
+    ensures later { LinesFollow }
+    ensures line { EntriesAreLines }
 {}

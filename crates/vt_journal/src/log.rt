@@ -76,6 +76,14 @@ impl Log {
         let _ = added;
     }
 
+    /// Removes all entries. The room for them stays.
+    pub fn clear(&mut self)
+        ensures { self.new ≡ record self.old { entries = [] } }
+    {
+        self.entries.clear();
+        self.bytes = 0;
+    }
+
     /// The entries in order.
     pub fn entries(&self) -> &[Entry]
         ensures same { result.now ≡ self.now.entries }

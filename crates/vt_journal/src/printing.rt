@@ -65,7 +65,8 @@ fn add_lines(
     Ok(())
 }
 
-fn add_first(alloc: Global, text: &mut Bytes, version: u8) -> Result<(), NoMemory>
+/// Adds the first line of a journal.
+pub(crate) fn add_first(alloc: Global, text: &mut Bytes, version: u8) -> Result<(), NoMemory>
     ensures { OnOk result (text.new.bytes ≡ text.old.bytes ++ line_text (first_words version)) }
 {
     add_numbered(alloc, text, b"%journal", &[u64::from(version)])
@@ -89,7 +90,13 @@ fn add_numbered(
     Ok(())
 }
 
-fn add_entry(alloc: Global, text: &mut Bytes, version: u8, entry: &Entry) -> Result<(), NoMemory>
+/// Adds the line of an entry.
+pub(crate) fn add_entry(
+    alloc: Global,
+    text: &mut Bytes,
+    version: u8,
+    entry: &Entry,
+) -> Result<(), NoMemory>
     requires { version ≡ 1 → entry.now.caller ≤ processes }
     ensures ok { OnOk result
         (text.new.bytes ≡ text.old.bytes ++ line_text (entry_words version entry.now)) }
@@ -104,7 +111,8 @@ fn add_entry(alloc: Global, text: &mut Bytes, version: u8, entry: &Entry) -> Res
     Ok(())
 }
 
-fn add_tail(alloc: Global, text: &mut Bytes, end: &Tail) -> Result<(), NoMemory>
+/// Adds the last line of a journal.
+pub(crate) fn add_tail(alloc: Global, text: &mut Bytes, end: &Tail) -> Result<(), NoMemory>
     ensures ok { OnOk result (text.new.bytes ≡ text.old.bytes ++ line_text (tail_words end.now)) }
     ensures fit { OnOk result (IsFitTail end.now) }
 {

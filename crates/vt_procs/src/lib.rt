@@ -9,6 +9,7 @@ mod proc_list;
 mod proc_start;
 mod process;
 mod procs;
+mod same;
 mod ticket;
 mod tickets;
 mod waited;

@@ -1,5 +1,8 @@
+ghost use Rattle.std.specs.List.{list_any};
 ghost use Rattle.std.specs.Prelude.{◌≡◌, ◌<◌, IfSome, is_some, length, slice_index_or, slice_set, Some, None, if◌then◌else◌};
 ghost use Rattle.vt_procs.specs.Callers.{has_open, is_console, lowest_free, with_open};
+
+mod same;
 
 use std::marker::Model;
 use vt_base::{ConsoleNo, DESCRIPTORS, Fd};
@@ -54,6 +57,13 @@ impl Opens {
         ensures { result ≡ has_open self.now c }
     {
         self.places.iter().any(|place| is_console(c, place))
+    }
+
+    /// Whether any descriptor is open.
+    pub fn any(&self) -> bool
+        ensures { result ≡ list_any is_some self.now }
+    {
+        self.places.iter().any(|place| place.is_some())
     }
 
     /// Opens the console at the lowest free descriptor, if there is one.

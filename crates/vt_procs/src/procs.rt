@@ -1,5 +1,6 @@
 ghost use Rattle.std.specs.Prelude.{◌≡◌, ◌≤◌, true, Some, None, is_some, length, if◌then◌else◌};
 ghost use Rattle.vt_procs.specs.Callers.{IsFit, IsFitCount, accepts, caller_at, callers_of, console_of, after_exit, free_fd, has_open, is_live, is_opened, after_open, plain_caller, after_close, caller_at_start};
+ghost use Rattle.vt_procs.specs.Rights.{after_admission, has_no_wait, has_nothing, is_plain};
 ghost use Rattle.vt_procs.specs.Tickets.{with_accepter};
 
 use crate::opens::NO_OPENS;
@@ -62,6 +63,15 @@ impl Procs {
         ensures { result ≡ (caller_at self.now p).privileged }
     {
         self.callers[usize::from(p.get())].privileged
+    }
+
+    /// Sets the console that `p` may handle without privilege, and whether it may handle every console.
+    pub fn set_rights(&mut self, p: CallerNo, rights: ProcStart)
+        ensures { self.new ≡ after_admission p rights self.old }
+    {
+        let caller = &mut self.callers[usize::from(p.get())];
+        caller.home = rights.home;
+        caller.privileged = rights.privileged;
     }
 
     /// The console of the descriptor, if that is open.
@@ -141,6 +151,14 @@ impl Procs {
         *caller = plain_caller(false, caller.home, caller.privileged);
     }
 
+    /// Whether `p` is alive, has nothing open, no signal pending and no wait, and doesn't accept the key
+    /// signal. It looks at every descriptor.
+    pub fn has_nothing(&self, p: CallerNo) -> bool
+        ensures { result ≡ has_nothing self.now p }
+    {
+        is_plain(&self.callers[usize::from(p.get())]) && !self.accepts(p)
+    }
+
     // Whether `p` accepts the key signal.
     fn accepts(&self, p: CallerNo) -> bool
         ensures { result ≡ accepts p self.now.accepter }
@@ -163,6 +181,25 @@ fn plain_caller(live: bool, home: u8, privileged: bool) -> Process
         opens: NO_OPENS,
         pending: SigSet::empty(),
         waiting: Waiting::Nothing,
+    }
+}
+
+// Whether a caller is alive, and has nothing open, no signal pending and no wait.
+fn is_plain(process: &Process) -> bool
+    ensures { result ≡ is_plain process.now }
+{
+    process.live
+        && !process.opens.any()
+        && process.pending.bits() == 0
+        && has_no_wait(&process.waiting)
+}
+
+fn has_no_wait(waiting: &Waiting) -> bool
+    ensures { result ≡ has_no_wait waiting.now }
+{
+    match waiting {
+        Waiting::Nothing => true,
+        Waiting::Open(_) | Waiting::Done | Waiting::Broken => false,
     }
 }
 

@@ -27,6 +27,14 @@ impl Procs {
         self.callers[usize::from(p.get())].pending.bits() != 0
     }
 
+    /// The signals that are pending for `p`.
+    pub fn signals_of(&self, p: CallerNo) -> SigSet
+        ensures { result ≡ (caller_at self.now p).pending }
+    {
+        let caller = &self.callers[usize::from(p.get())];
+        caller.pending
+    }
+
     /// Takes the pending signals of `p`.
     pub fn take_signals(&mut self, p: CallerNo) -> SigSet
         ensures answer { result ≡ (caller_at self.old p).pending }

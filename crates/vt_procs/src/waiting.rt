@@ -1,7 +1,7 @@
 use crate::Ticket;
 
 /// The state of a process's wait.
-#[derive(Clone, Copy, Debug)]
+#[derive(Clone, Copy, Debug, PartialEq, Eq)]
 pub enum Waiting {
     /// The process does not wait.
     Nothing,

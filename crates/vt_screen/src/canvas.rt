@@ -16,6 +16,7 @@ mod prefixes;
 mod print;
 mod reports;
 mod resizes;
+mod same;
 mod saves;
 mod sequences;
 mod settings;

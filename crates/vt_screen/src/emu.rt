@@ -7,6 +7,7 @@ ghost use Rattle.vt_screen.specs.contracts.emu.Emu.{the_row};
 ghost use Rattle.vt_screen.specs.Tape.{palette, resize, user_map, with_change};
 
 mod changes;
+mod same;
 mod sequences;
 
 use crate::canvas::Canvas;

@@ -1,4 +1,4 @@
-ghost use Rattle.std.specs.Prelude.{◌≡◌, ◌<◌, false, length, replicate, slice_set};
+ghost use Rattle.std.specs.Prelude.{◌≡◌, ◌<◌, IsTrue, false, length, replicate, slice_set};
 ghost use Rattle.vt_screen.specs.Screen.{has_stop, start_stops};
 
 use std::marker::Model;
@@ -50,10 +50,37 @@ impl Stops {
         self.columns[usize::from(x)] = on;
     }
 
+    /// Whether both have the same stops. Nothing is proved of the answer `false`.
+    pub(crate) fn same(&self, other: &Stops) -> bool
+        ensures { IsTrue result → self.now ≡ other.now }
+    {
+        are_same_columns(&self.columns, &other.columns)
+    }
+
+    /// Takes over the other's stops.
+    pub(crate) fn copy_from(&mut self, other: &Stops)
+        ensures { self.new ≡ other.now }
+    {
+        self.columns = other.columns;
+    }
+
     /// Clears every stop.
     pub(crate) fn clear(&mut self)
         ensures { self.new ≡ replicate 255 false }
     {
         self.columns = [false; COLUMNS];
     }
+}
+
+// Whether all columns are the same.
+fn are_same_columns(columns: &[bool], others: &[bool]) -> bool
+    requires { length columns.now ≡ length others.now }
+    ensures { IsTrue result → columns.now ≡ others.now }
+{
+    for i in 0..columns.len() {
+        if columns[i] != others[i] {
+            return false;
+        }
+    }
+    true
 }

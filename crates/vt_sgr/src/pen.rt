@@ -1,3 +1,5 @@
+mod same;
+
 use std::marker::Model;
 use vt_cells::{Attr, Look};
 

@@ -1,7 +1,7 @@
 use crate::{Handshake, Words};
 
 /// How a console handles its switches.
-#[derive(Clone, Copy, Debug)]
+#[derive(Clone, Copy, Debug, PartialEq, Eq)]
 pub enum Handling {
     /// VT_AUTO: the console itself, at once.
     Auto(Words),

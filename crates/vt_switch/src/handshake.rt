@@ -1,7 +1,7 @@
 use vt_base::{CallerNo, Signal};
 
 /// A process that handles the switches of a console (VT_PROCESS).
-#[derive(Clone, Copy, Debug)]
+#[derive(Clone, Copy, Debug, PartialEq, Eq)]
 pub struct Handshake {
     pub owner: CallerNo,
     pub waitv: u16,

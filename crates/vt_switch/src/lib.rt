@@ -14,6 +14,7 @@ mod mark;
 mod mode;
 mod release;
 mod request;
+mod same;
 mod settings;
 mod state;
 mod words;

@@ -13,6 +13,7 @@ ghost use Rattle.vt_units.specs.Units.{IsUnfinished};
 ghost use Rattle.vt_units.specs.declared.unit.Unit.TheVariants.{Esc};
 
 mod long_sgr;
+mod same;
 
 use crate::bytes::{decodes, interrupts, is_body, is_control};
 use crate::characters::read_characters;

@@ -54,6 +54,13 @@ impl PendingBytes {
         self.len = 0;
     }
 
+    pub(crate) fn copy_from(&mut self, other: &PendingBytes)
+        ensures { self.new ≡ other.now }
+    {
+        self.bytes = other.bytes;
+        self.len = other.len;
+    }
+
     pub(crate) fn as_slice(&self) -> &[u8]
         ensures bytes { result.now ≡ self.now }
         ensures bound { length self.now ≤ 256 }

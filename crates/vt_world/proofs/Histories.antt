@@ -3,9 +3,13 @@ use Rattle.std.proofs.Common.{◌≡◌, ℕ, zero, suc, ◌<◌, ◌⊎◌, ⊎
 use Rattle.std.proofs.Math.Seq.{take-append_seam}
 use Rattle.std.proofs.lemmas.List.{take-append-le}
 use Rattle.std.proofs.lemmas.Option.{none-some, same_Some, slice_get_within}
-use Rattle.std.specs.Prelude.{slice_get}
-use Rattle.vt_world.specs.History.{IsNext, LegalGrows, NothingIsLegal, ReplayGrows}
-use Rattle.vt_world.specs.Step.{step}
+use Rattle.std.specs.Prelude.{◌==◌, count_by, slice_get}
+use Rattle.vt_events.specs.Plain.{plain_reply}
+use Rattle.vt_events.specs.declared.entry.Entry.{Entry}
+use Rattle.vt_events.specs.declared.event.Event.{Event}
+use Rattle.vt_world.specs.History.{IsNext, LegalGrows, NothingIsLegal, ReplayGrows, StepsAreEntered, replay}
+use Rattle.vt_world.specs.State.{WorldState}
+use Rattle.vt_world.specs.Step.{Outcome, step}
 
 pub nothing_is_legal : NothingIsLegal
 nothing_is_legal start k entry is =
@@ -46,3 +50,18 @@ module _ {A : Type 0} where
 
 pub legal_grows : LegalGrows
 legal_grows start entries entry legal next = each_more (IsNext start) entries entry legal next
+
+pub steps_are_entered : StepsAreEntered
+steps_are_entered start w v entries p e r entry before gives of =
+    let stepped : step (replay start entries) entry.caller entry.event ≡ record { world = v; reply = plain_reply r } =
+    ap (λ (x : WorldState). step x entry.caller entry.event) (sym before.replayed)
+    ∙ (ap (λ (c : ℕ). step w c entry.event) of.caller ∙ (ap (λ (x : Event). step w p x) of.event ∙ gives)) in
+    let next : IsNext start entries entry = record {
+      answer = of.reply ∙ sym (ap (λ (o : Outcome). o.reply) stepped);
+      number =
+          of.number
+          ∙ ap (λ (c : ℕ). count_by (λ (earlier : Entry). earlier.caller == c) entries) (sym of.caller);
+    } in record {
+      legal = legal_grows start entries entry before.legal next;
+      replayed = sym (replay_grows start entries entry ∙ ap (λ (o : Outcome). o.world) stepped);
+    }

@@ -1,14 +1,17 @@
+mod Admissions
 pub mod Ages
 pub mod Allocation
 mod Alters
 mod Answered
 mod Bells
 mod Called
+pub mod Copied
 mod Cores
 mod Displays
 mod Freed
 pub mod Histories
 mod Lives
+mod Mapping
 mod Masks
 mod Moments
 mod Opening
@@ -19,6 +22,7 @@ mod Quiet
 mod Refused
 mod Requests
 mod Reruns
+mod Rights
 mod Screens
 mod Sizes
 mod Stays

@@ -2,8 +2,10 @@
 use Rattle.std.specs.Prelude.{◌≡◌, ℕ, ◌==◌, List, [], ◌∷◌, ◌++◌, take, count_by, Some, slice_get}
 use Rattle.vt_events.specs.Plain.{plain_reply}
 use Rattle.vt_events.specs.declared.entry.Entry.{Entry}
+use Rattle.vt_events.specs.declared.event.Event.{Event}
+use Rattle.vt_events.specs.declared.reply.Reply.{Reply}
 use Rattle.vt_world.specs.State.{WorldState}
-use Rattle.vt_world.specs.Step.{step}
+use Rattle.vt_world.specs.Step.{HasOutcome, step}
 
 -- replay: the machine after the events of the entries, one after another
 abbrev pub replay : WorldState → List Entry → WorldState
@@ -38,3 +40,23 @@ ReplayGrows =
     (start : WorldState) (entries : List Entry) (entry : Entry)
     → replay start (entries ++ entry ∷ [])
     ≡ (step (replay start entries) entry.caller entry.event).world
+
+-- these entries are a legal history from this start, and leave this machine
+pub record Leaves (start : WorldState) (entries : List Entry) (w : WorldState) : Type 0 where
+  pub legal : IsLegal start entries
+  pub replayed : w ≡ replay start entries
+
+-- the entry of this call of p, with this number and this answer, whatever room its bytes have
+pub record IsEntryOf (p count : ℕ) (e : Event) (r : Reply) (entry : Entry) : Type 0 where
+  pub caller : entry.caller ≡ p
+  pub number : entry.seq ≡ count
+  pub event : entry.event ≡ e
+  pub reply : plain_reply entry.reply ≡ plain_reply r
+
+-- with the entry of one more step, the entries are a legal history that leaves the machine after that step
+abbrev pub StepsAreEntered : Type 0
+StepsAreEntered =
+    (start w v : WorldState) (entries : List Entry) (p : ℕ) (e : Event) (r : Reply) (entry : Entry)
+    → Leaves start entries w → HasOutcome (step w p e) v r
+    → IsEntryOf p (count_by (λ earlier. earlier.caller == p) entries) e r entry
+    → Leaves start (entries ++ entry ∷ []) v

@@ -8,12 +8,14 @@ pub mod Laws
 pub mod Lent
 pub mod RefusalLaws
 pub mod Refusals
+pub mod Rights
 pub mod Rows
 pub mod Spare
 pub mod Start
 pub mod State
 pub mod Step
 pub mod StepLaws
+pub mod TableLaws
 pub mod Tapes
 pub mod Terminals
 pub mod Typing

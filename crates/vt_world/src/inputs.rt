@@ -1,6 +1,8 @@
 ghost use Rattle.std.specs.Prelude.{◌≡◌, ◌≤◌, ◌++◌, IfOk, length, min, replicate, take};
 ghost use Rattle.vt_world.specs.Inputs.{comes, with_new_input, input_at, with_key_state, lit, new_input, with_queued, with_bytes, without_bytes};
 
+mod same;
+
 use crate::input::Input;
 use in_queue::InQueue;
 use key_machine::KbState;

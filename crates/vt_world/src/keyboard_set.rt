@@ -6,6 +6,8 @@ ghost use Rattle.vt_world.specs.Deeds.{keys_without};
 ghost use Rattle.vt_world.specs.Typing.{read_by, scanner_of};
 ghost use Rattle.vt_base.specs.Keyboards.{keyboard_of};
 
+mod same;
+
 use key_machine::Keyboard;
 use key_tables::KeyTables;
 use scan_codes::{KeyEvent, Scanner};

@@ -1,7 +1,8 @@
 //! Laws of histories.
-ghost use Rattle.vt_world.specs.History.{LegalGrows, NothingIsLegal, ReplayGrows};
+ghost use Rattle.vt_world.specs.History.{LegalGrows, NothingIsLegal, ReplayGrows, StepsAreEntered};
 ghost use Rattle.vt_world.specs.Laws.{ActsAreCalls, ActsMakeCores, DisplaysAreLawful, DisplaysAreLawfulFrom, MomentsGrow, OwnersAreLive, ScreensAreTapes, TargetsAreExplained, TerminalsAreAllocated, TracesTellActs, TracesTellDeeds, TracesTellHops, TracesTellNews};
 ghost use Rattle.vt_world.specs.RefusalLaws.{BrokenWaitsAreTaken, LaterAnswersStay, RefusalsCanGo, RefusalsChangeNothing};
+ghost use Rattle.vt_world.specs.Rights.{AdmissionsAreStarts, AdmissionsComeFirst, RightsAreOwn};
 ghost use Rattle.vt_world.specs.StepLaws.{NobodyWaitsAtStart, OneTranslation, SizesStay, TerminalsStay, TicketsAreCalled};
 
 use crate::World;
@@ -13,6 +14,7 @@ pub fn legal_grows()
     ensures nothing { NothingIsLegal }
     ensures more { LegalGrows }
     ensures replay { ReplayGrows }
+    ensures entered { StepsAreEntered }
 {}
 
 /// The cause of each switch of the display in every history from a start, and the marks of the
@@ -70,6 +72,14 @@ pub fn refused_calls_change_nothing()
     ensures later { LaterAnswersStay }
     ensures runs { RefusalsCanGo }
     ensures broken { BrokenWaitsAreTaken }
+{}
+
+/// A caller's rights matter to its own calls alone. So a process that made no call may have had its
+/// rights from the start.
+pub fn rights_are_own()
+    ensures own { RightsAreOwn }
+    ensures first { AdmissionsComeFirst }
+    ensures starts { AdmissionsAreStarts }
 {}
 
 /// After every history from a start, the scan numbers of all keyboards have the same keycodes.

@@ -51,6 +51,16 @@ impl Terminal {
         self.bells
     }
 
+    /// Becomes the other, whose screen has the size of this one's.
+    pub(crate) fn copy_from(&mut self, other: &Terminal)
+        requires rows { self.old.machine.state.grid.rows ≡ other.now.machine.state.grid.rows }
+        requires columns { self.old.machine.state.grid.cols ≡ other.now.machine.state.grid.cols }
+        ensures { self.new ≡ other.now }
+    {
+        self.emu.copy_from(&other.emu);
+        self.bells = other.bells;
+    }
+
     /// Runs a text on the screen up to its first side effect, or to its end, and counts its BEL. Returns the
     /// number of bytes that were run; `effect` then is their side effect, if they have one.
     pub(crate) fn write(&mut self, b: &[u8], effect: &mut SideEffect) -> usize

@@ -5,6 +5,8 @@ ghost use Rattle.vt_screen.specs.Tape.{palette, resize, user_map};
 ghost use Rattle.vt_world.specs.Lent.{grid_after_resize};
 ghost use Rattle.vt_world.specs.Terminals.{after_screen_change, new_terminal, said_of, terminal_at, with_start, without_terminal, after_write};
 
+mod same;
+
 use crate::inputs::CONSOLE_PLACES;
 use crate::terminal::Terminal;
 use std::alloc::Global;

@@ -49,6 +49,16 @@ impl Trace {
         self.marks.clear();
     }
 
+    /// Becomes the other trace.
+    pub(crate) fn copy_from(&mut self, other: &Trace)
+        ensures { self.new ≡ other.now }
+    {
+        self.marks.clear();
+        let copied = self.marks.extend_from_slice(other.marks());
+        prove!(copied.is_ok());
+        self.hops = other.hops;
+    }
+
     /// Appends a mark.
     pub(crate) fn push(&mut self, m: &Mark)
         requires { length self.old.marks < MOST_MARKS }

@@ -1,12 +1,19 @@
+ghost use Rattle.std.specs.List.{list_any, range_with_len};
 ghost use Rattle.std.specs.Prelude.{◌≡◌, ◌≤◌, IfOk, is_some, length, option_copied};
-ghost use Rattle.vt_procs.specs.Callers.{IsFitCount, caller_at, console_of};
+ghost use Rattle.vt_procs.specs.Callers.{IsFitCount, caller_at, console_of, is_live};
+ghost use Rattle.vt_base.specs.Limits.{consoles};
+ghost use Rattle.vt_switch.specs.Calls.{owns};
 ghost use Rattle.vt_switch.specs.Display.{console, is_allocated, owner_of};
 ghost use Rattle.vt_switch.specs.Law.{OwnersLive};
 ghost use Rattle.vt_base.specs.ConsoleSet.{IsFitSet};
 ghost use Rattle.vt_world.specs.Inputs.{input_at};
+ghost use Rattle.vt_world.specs.Rights.{admitted, is_unused};
 ghost use Rattle.vt_world.specs.Start.{start_world};
 ghost use Rattle.vt_world.specs.State.{core, is_waiting};
 ghost use Rattle.vt_world.specs.Terminals.{bells_of, machine_of, terminal_at};
+
+mod getters;
+mod same;
 
 use crate::inputs::Inputs;
 use crate::keyboard_set::KeyboardSet;
@@ -18,7 +25,7 @@ use std::alloc::Global;
 use std::marker::Model;
 use vt_base::{CallerNo, ConsoleNo, NoMemory, Size};
 use vt_grid::Grid;
-use vt_procs::{Config, Procs, Waited, Waiting};
+use vt_procs::{Config, ProcStart, Procs, Waited, Waiting};
 use vt_screen::Emu;
 use vt_switch::{Mark, Switch};
 
@@ -82,6 +89,36 @@ impl World {
             trace,
             kept: None,
         })
+    }
+
+    /// Sets the console that `p` may handle without privilege, and whether it may handle every console. If
+    /// `p` has made no call, the machine is as if it had started so ([`crate::rights_are_own`]).
+    pub fn admit(&mut self, p: CallerNo, rights: ProcStart)
+        ensures { self.new ≡ admitted p rights self.old }
+    {
+        self.procs.set_rights(p, rights);
+    }
+
+    /// Whether the caller is alive.
+    pub fn live(&self, p: CallerNo) -> bool
+        ensures { result ≡ is_live self.now.callers p }
+    {
+        self.procs.live(p)
+    }
+
+    /// Whether another program can have the process: it is alive, and has and handles nothing. It looks at
+    /// every descriptor and every console.
+    pub fn is_unused(&self, p: CallerNo) -> bool
+        ensures { result ≡ is_unused self.now p }
+    {
+        self.procs.has_nothing(p) && !self.owns_any(p)
+    }
+
+    // Whether the process handles the switches of any console.
+    fn owns_any(&self, p: CallerNo) -> bool
+        ensures { result ≡ list_any (λ c. owns self.now.display p c) (range_with_len 1 consoles) }
+    {
+        ConsoleNo::all().iter().any(|c| self.switch.owns(p, *c))
     }
 
     /// Does nothing. It is called for its clause: every process that handles the switches of a console is

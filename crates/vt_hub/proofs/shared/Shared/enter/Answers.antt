@@ -4,9 +4,10 @@ use Rattle.vt_hub.specs.Histories.{made_by}
 use Rattle.vt_hub.specs.Shared.{SharedView, shared_view}
 use Rattle.vt_hub.specs.Waiters.{AreEnded, AreOpen, has_process}
 use Rattle.vt_hub.specs.declared.state.State.{State}
+use Rattle.vt_world.specs.History.{IsEntryOf}
 use Rattle.vt_world.specs.State.{WorldState, is_waiting}
 use Rattle.vt_world.specs.Step.{HasOutcome, step}
-use Rattle.vt_hub.proofs.Sounds.{IsEntryOf, ended_are, enters, open_after}
+use Rattle.vt_hub.proofs.Sounds.{ended_are, enters, open_after}
 use Rattle.std.proofs.Common.{length}
 use Rattle.vt_hub.proofs.shared.Shared.enter.Goals as goal
 
@@ -32,8 +33,8 @@ invariant_of-self g c =
     subst (λ (x : WorldState). HasOutcome (step x c.args.caller c.args.event.now) w.world c.step_with-reply.result)
     (ap (λ (s : State). s.world) given) c.step_with-reply.ensures.step in
     enters g.J.Opening.start g.J.Opening.limits v w c.args.caller c.args.seq c.args.event.now
-    c.step_with-reply.result entry of stepped c.self.invariant c.legal_grows.ensures.more
-    c.legal_grows.ensures.replay c.sizes_stay.ensures c.tickets_are_called.ensures
+    c.step_with-reply.result entry of stepped c.self.invariant c.legal_grows.ensures.entered
+    c.sizes_stay.ensures c.tickets_are_called.ensures
     (ap (λ (x : SharedView). is_waiting x.world c.args.caller) c.self.view_is ∙ c.requires.free)
     (c.requires.number
     ∙ ap (λ (x : SharedView). length (made_by c.args.caller x.log.entries)) (sym c.self.view_is))

@@ -1,0 +1,3 @@
+pub mod Admitted
+pub mod Afters
+pub mod Continued

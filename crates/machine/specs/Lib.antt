@@ -1,0 +1,4 @@
+pub mod Admissions
+pub mod ErrorText
+pub mod History
+pub mod MachineState

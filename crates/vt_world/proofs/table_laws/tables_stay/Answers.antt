@@ -1,0 +1,5 @@
+use Rattle.vt_world.proofs.Mapping.{tables_stay}
+use Rattle.vt_world.proofs.table_laws.tables_stay.Goals as goal
+
+pub returns : goal.returns
+returns c = tables_stay
