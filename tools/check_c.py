@@ -65,11 +65,11 @@ def binding(bench):
 
 def check_header(bench):
     bench.needs("nm", "readelf")
-    for language, standards, compiler in (("c", ("c99", "c11", "c2x"), "cc"), ("c++", ("c++11", "c++17", "c++20"), "c++")):
+    for language, compiler, standards in (("c", "cc", "c99 c11 c2x"), ("c++", "c++", "c++11 c++17 c++20")):
         if not shutil.which(compiler):
             bench.skip(f"vt.h in {language}", f"{compiler} isn't there")
             continue
-        for standard in standards:
+        for standard in standards.split():
             words = [compiler, "-x", language, f"-std={standard}", *WARNINGS, "-pedantic", "-fsyntax-only", HEADER]
             bench.ends_well(words, f"vt.h as {standard}")
     check_header_beside(bench)
@@ -97,8 +97,7 @@ def check_header(bench):
 
 
 def check_header_beside(bench):
-    """The header after those of terminfo and of the console, whose macros stay clear of it, and with all of clang's
-    warnings."""
+    """The header after those of terminfo and of the console, whose macros stay clear of it, and under clang's warnings."""
     text = b"#include <linux/vt.h>\n#include <linux/kd.h>\n#include <linux/keyboard.h>\n#include <vt.h>\n"
     words = ["cc", "-x", "c", *WARNINGS, "-fsyntax-only", "-I", HEADER.parent, "-"]
     bench.ends_well(words, "vt.h after the headers of the console", text)
