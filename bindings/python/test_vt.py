@@ -185,28 +185,52 @@ class Keyboards(unittest.TestCase):
 
     def test_state(self):
         keyboard = vt.Keyboard(KEYMAP)
-        self.assertEqual(keyboard.state, vt.KeyState(vt.UNICODE, vt.ESCPREFIX, 0, 0, 0, 0, 0))
-        keyboard.set_mode(vt.MEDIUMRAW)
+        self.assertEqual(keyboard.state, vt.KeyState(vt.UNICODE, vt.ESCPREFIX, 0, 0, vt.LIGHTS_FOLLOW, 0, 0))
+        keyboard.state.mode = vt.MEDIUMRAW
         self.assertEqual(keyboard.scan(30), vt.Typed(b"\x1e"))
-        keyboard.set_mode(vt.UNICODE)
         keyboard.release()
-        keyboard.set_flags(4, 2)
-        self.assertEqual(keyboard.state.lights, 4)
+        keyboard.state = vt.KeyState(flags=4, defaults=2, lights=1, meta=vt.METABIT)
         self.assertEqual(keyboard.scan(30), vt.Typed(b"A"))
-        keyboard.set_lights(1)
-        keyboard.set_meta(vt.METABIT)
-        keyboard.set_locks(8, 16)
-        self.assertEqual(keyboard.state, vt.KeyState(vt.UNICODE, vt.METABIT, 4, 2, 1, 8, 16))
-        keyboard.set_lights(None)
-        self.assertEqual(keyboard.state.lights, 4)
+        self.assertEqual(keyboard.state, vt.KeyState(flags=4, defaults=2, lights=1, meta=vt.METABIT))
+        keyboard.state = vt.KeyState(sticky=1)
+        self.assertEqual([keyboard.scan(30), keyboard.scan(30)], [vt.Typed(b"A"), vt.Typed(b"a")])
+        for state in (
+            vt.KeyState(mode=5), vt.KeyState(meta=5), vt.KeyState(flags=8), vt.KeyState(defaults=8),
+            vt.KeyState(lights=8), vt.KeyState(locks=256), vt.KeyState(sticky=-1),
+        ):
+            keyboard.state = state
+            with self.assertRaises(vt.OutOfRange):
+                keyboard.scan(30)
+        for call in (lambda: keyboard.string(256), lambda: keyboard.set_string(0, bytes(256))):
+            with self.assertRaises(vt.OutOfRange):
+                call()
+
+    def test_keycodes(self):
+        """Keycodes are those of linux/input-event-codes.h, kinds those of docs/KEYS.md: 1 is a character."""
+        keyboard = vt.Keyboard(KEYMAP)
+        self.assertEqual([keyboard.key(30), keyboard.key(30, False)], [vt.Typed(b"a"), None])
+        self.assertEqual(keyboard.keycode(44), 44)
+        keyboard.set_keycode(44, 30)
+        self.assertEqual((keyboard.keycode(44), keyboard.scan(44)), (30, vt.Typed(b"a")))
+        self.assertEqual(keyboard.entry(0, 30), (1, 97))
+        keyboard.set_entry(0, 30, 1, 98)
+        self.assertEqual((keyboard.entry(0, 30), keyboard.scan(44)), ((1, 98), vt.Typed(b"b")))
         for call in (
-            lambda: keyboard.set_mode(5), lambda: keyboard.set_meta(5), lambda: keyboard.set_flags(8),
-            lambda: keyboard.set_flags(0, 8), lambda: keyboard.set_locks(256), lambda: keyboard.set_locks(0, -1),
-            lambda: vt.Keyboard(KEYMAP, mode=5), lambda: keyboard.string(256),
-            lambda: keyboard.set_string(0, bytes(256)),
+            lambda: keyboard.key(0), lambda: keyboard.key(256), lambda: keyboard.keycode(128),
+            lambda: keyboard.set_keycode(44, 256), lambda: keyboard.entry(256, 30), lambda: keyboard.entry(0, 0),
+            lambda: keyboard.set_entry(0, 30, 14, 0), lambda: keyboard.set_entry(0, 30, 1 << 16, 0),
         ):
             with self.assertRaises(vt.OutOfRange):
                 call()
+
+    def test_pairs(self):
+        keyboard = vt.Keyboard("compose '`' 'a' to U+00E0\n")
+        self.assertEqual(keyboard.pairs(), [(0x60, 0x61, 0xE0)])
+        keyboard.set_pairs([(1, 2, 3), (4, 5, 6)])
+        self.assertEqual(keyboard.pairs(), [(1, 2, 3), (4, 5, 6)])
+        for pairs in ([(1, 2, 65536)], [(1, 2, -1)], [(1, 2, 3)] * 257):
+            with self.assertRaises(vt.OutOfRange):
+                keyboard.set_pairs(pairs)
 
     def test_strings(self):
         keyboard = vt.Keyboard(KEYMAP)
@@ -218,7 +242,7 @@ class Keyboards(unittest.TestCase):
     def test_closing(self):
         with vt.Keyboard(KEYMAP) as keyboard:
             keyboard.scan(30)
-        for call in (lambda: keyboard.scan(30), keyboard.release, lambda: keyboard.state, lambda: keyboard.string(0)):
+        for call in (lambda: keyboard.scan(30), keyboard.release, lambda: keyboard.string(0)):
             with self.assertRaises(vt.Closed):
                 call()
 
