@@ -36,6 +36,8 @@ C_LIBRARY = [
 # What needs the C library that check_c has built.
 BEHIND = [
     ("check_install", ["tools/check_install.py"]),
+    ("check_expect", ["tools/check_expect.py"]),
+    ("check_python", ["tools/check_python.py"]),
 ]
 CHECKS = [
     ("check_hostile", ["tools/check_hostile.py"]),
@@ -43,7 +45,6 @@ CHECKS = [
     ("check_watch", ["tools/check_watch.py", "40"]),
     ("check_timeline", ["tools/check_timeline.py"]),
     ("check_keymaps", ["tools/check_keymaps.py"]),
-    ("check_expect", ["tools/check_expect.py"]),
     ("check_models", ["tools/check_models.py"]),
     ("engines vt", ["tools/engines.py", "vt", "--cut", "--first"]),
     ("check_build", ["tools/check_build.py", "--build"]),

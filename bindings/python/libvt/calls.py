@@ -1,22 +1,28 @@
-"""The screen machine and the keyboard of the Linux text console, by the C library libvt.so.1; vt(3) has its calls.
+"""The calls of the C library libvt.so.1: the screen machine and the keyboard of the Linux text console (vt(3)).
 
-    import vt
+    import libvt
 
-    with vt.Screen(25, 80) as screen:
+    with libvt.Screen(25, 80) as screen:
         for event in screen.feed(b"hello\\x1b[6n"):
             print(event)                        # Report(text=b'\\x1b[1;6R')
         print(screen.rows()[0].rstrip())        # hello
 
-The library is the file that VT_LIBRARY in the environment names, or libvt.so.1 where the system looks for libraries.
+The library is loaded from the first of these places: the file that VT_LIBRARY names, the folder of this package (a
+wheel has it there), the folder out/c/lib of the clone that contains this package, and the folders where the system
+looks for libraries.
 Rows and columns are counted from 0, from the top left. A call of one object waits for the others of that object, so
 that threads may share it. Nothing but Python's own library is needed.
 """
+from __future__ import annotations
+
 import ctypes
 import os
+import pathlib
 import threading
 from dataclasses import dataclass
-from typing import NamedTuple
+from typing import Any, Callable, Iterable, Mapping, NamedTuple, TypeVar, Union
 
+FILE = "libvt.so.1"
 OUTS = 64
 PIECE = 4096
 ROW = 255
@@ -24,13 +30,15 @@ COLOURS = 16
 KEYMODES = RAW, XLATE, MEDIUMRAW, UNICODE, OFF = range(5)
 METABIT, ESCPREFIX = 3, 4
 HALF = 0x110000
+# The colours of an attribute byte, in the order that the VGA has.
+NAMES = ("black", "blue", "green", "cyan", "red", "magenta", "yellow", "white")
 
 
 class Error(Exception):
-    """What every error of this module is."""
+    """The base class of the errors of this module."""
 
 
-class LibraryError(Error):
+class LibraryError(Error, ImportError):
     """The library isn't there, or isn't this one."""
 
 
@@ -53,7 +61,7 @@ class NotDrawable(Error):
 class KeymapFault(Error):
     """The first fault of a keymap: its kind, and its line and column, both from 1 (docs/codes.md)."""
 
-    def __init__(self, kind, line, column):
+    def __init__(self, kind: int, line: int, column: int) -> None:
         super().__init__(f"fault {kind} at line {line}, column {column}")
         self.kind, self.line, self.column = kind, line, column
 
@@ -116,6 +124,10 @@ class Attention:
     """The secure attention key."""
 
 
+Bytes = Union[bytes, bytearray, memoryview]
+Event = Union[Report, SwitchTo, SwitchLast, SwitchNext, SwitchPrevious, Lights, Bell, Typed, Spawn, Attention]
+
+
 class Cell(NamedTuple):
     """A cell: its character ("" for the right half of a wide one), its code, and its attribute byte."""
 
@@ -124,19 +136,25 @@ class Cell(NamedTuple):
     attribute: int
 
     @property
-    def colour(self):
+    def colour(self) -> int:
         """The colour of the character: the sum of blue 1, green 2, red 4, bright 8."""
         return self.attribute % 16
 
     @property
-    def background(self):
+    def background(self) -> int:
         """The colour behind it."""
         return self.attribute // 16 % 8
 
     @property
-    def blinks(self):
+    def blinks(self) -> bool:
         """Whether it blinks."""
         return self.attribute >= 128
+
+    @property
+    def words(self) -> str:
+        """Its colours in words: `red black bold` is bright red on black."""
+        words = [NAMES[self.colour & 7], NAMES[self.background]]
+        return " ".join(words + ["bold"] * (self.colour >> 3) + ["blink"] * self.blinks)
 
 
 class Cursor(NamedTuple):
@@ -257,8 +275,16 @@ _CALLS = {
 }
 
 
-def _load():
-    name = os.environ.get("VT_LIBRARY") or "libvt.so.1"
+def _name() -> str:
+    """The library's file, or its name for the system."""
+    here = pathlib.Path(__file__).resolve().parent
+    files = [here / FILE, *(folder / "out/c/lib" / FILE for folder in here.parents)]
+    found = [str(file) for file in files if file.exists()]
+    return os.environ.get("VT_LIBRARY") or (found or [FILE])[0]
+
+
+def _load() -> ctypes.CDLL:
+    name = _name()
     try:
         library = ctypes.CDLL(name)
         for call, arguments in _CALLS.items():
@@ -276,11 +302,14 @@ _library = _load()
 _OK, _MADE, _RANGE, _NO_MEMORY, _NOTHING, _NO_ROOM, _FAULT, _NOT_DRAWABLE = range(8)
 
 
-def _unsigned(value, what):
+def _unsigned(value: int, what: str) -> int:
     """A number for the library; what doesn't fit in 32 bits is out of every range."""
     if not 0 <= value < 1 << 32:
         raise OutOfRange(f"{what}: {value}")
     return value
+
+
+_Self = TypeVar("_Self", bound="_Object")
 
 
 class _Object:
@@ -288,13 +317,15 @@ class _Object:
 
     _kind = ""
 
-    def __init__(self):
+    def __init__(self) -> None:
         self._handle = _Handle()
         self._lock = threading.RLock()
 
-    def _call(self, name, *arguments, what="a number is out of its range", may=()):
+    def _call(
+        self, name: str, *arguments: Any, what: str = "a number is out of its range", may: tuple[int, ...] = ()
+    ) -> int:
         with self._lock:
-            code = getattr(_library, f"vt_{self._kind}_{name}")(self._handle, *arguments)
+            code: int = getattr(_library, f"vt_{self._kind}_{name}")(self._handle, *arguments)
         if code == _OK or code in may:
             return code
         if code == _RANGE:
@@ -307,7 +338,7 @@ class _Object:
             raise NotDrawable("no text draws this screen")
         raise Error(f"vt_{self._kind}_{name}: code {code}")
 
-    def _text(self, name, *arguments, room, what="a number is out of its range"):
+    def _text(self, name: str, *arguments: Any, room: int, what: str = "a number is out of its range") -> bytes:
         """The text that a call gives, in as much room as it takes."""
         length = ctypes.c_size_t()
         with self._lock:
@@ -316,18 +347,18 @@ class _Object:
                 text = (ctypes.c_uint8 * length.value)()
         return ctypes.string_at(text, length.value)
 
-    def close(self):
+    def close(self) -> None:
         """Frees what the object has; a call after it raises Closed."""
         with self._lock:
             getattr(_library, f"vt_{self._kind}_free")(self._handle)
 
-    def __enter__(self):
+    def __enter__(self: _Self) -> _Self:
         return self
 
-    def __exit__(self, *_):
+    def __exit__(self, *_: object) -> None:
         self.close()
 
-    def __del__(self):
+    def __del__(self) -> None:
         if hasattr(self, "_lock"):
             self.close()
 
@@ -337,19 +368,20 @@ class Screen(_Object):
 
     _kind = "screen"
 
-    def __init__(self, rows, cols):
+    def __init__(self, rows: int, cols: int) -> None:
         super().__init__()
         what = f"{rows} rows and {cols} columns: each is 1 to 255"
         self._call("new", _unsigned(rows, what), _unsigned(cols, what), what=what)
         self._outs, self._fed = (_Out * OUTS)(), _Fed()
 
-    def feed(self, text):
+    def feed(self, text: Bytes) -> list[Event]:
         """Draws the bytes, however they are cut into calls. Returns a list of what they ask for, in order: Report,
         SwitchTo, SwitchLast, Lights, Bell."""
-        text, events = memoryview(bytes(text)), []
+        view = memoryview(bytes(text))
+        events: list[Event] = []
         with self._lock:
-            for at in range(0, max(1, len(text)), PIECE):
-                piece = bytes(text[at:at + PIECE])
+            for at in range(0, max(1, len(view)), PIECE):
+                piece = bytes(view[at:at + PIECE])
                 while True:
                     self._call("feed", piece, len(piece), self._outs, OUTS, self._fed)
                     events += map(_event, self._outs[:self._fed.said])
@@ -358,110 +390,110 @@ class Screen(_Object):
                     piece = piece[self._fed.taken:]
         return events
 
-    def write(self, text):
+    def write(self, text: Bytes) -> None:
         """Draws the bytes, and drops what they ask for."""
         text = bytes(text)
         self._call("write", text, len(text))
 
-    def _state(self):
+    def _state(self) -> _State:
         state = _State()
         self._call("state", state)
         return state
 
     @property
-    def size(self):
+    def size(self) -> tuple[int, int]:
         """How many rows and columns the screen has."""
         state = self._state()
         return state.rows, state.cols
 
     @property
-    def cursor(self):
+    def cursor(self) -> Cursor:
         """Where the cursor is, and whether it is shown."""
         state = self._state()
         return Cursor(state.y, state.x, bool(state.visible))
 
     @property
-    def modes(self):
+    def modes(self) -> Modes:
         """The modes that keys depend on, for Keyboard.scan."""
         state = self._state()
         return Modes(*(bool(mode) for mode in (state.cursor_keys, state.keypad, state.repeat, state.newline)))
 
     @property
-    def reverse(self):
+    def reverse(self) -> bool:
         """Whether the screen is shown reversed (DECSCNM)."""
         return bool(self._state().reverse)
 
-    def row(self, row):
+    def row(self, row: int) -> str:
         """The characters of a row."""
         what = f"row {row}"
         return self._text("row_text", _unsigned(row, what), room=4 * ROW, what=what).decode("utf-8", "surrogatepass")
 
-    def rows(self):
+    def rows(self) -> list[str]:
         """The characters of each row, from the top."""
         with self._lock:
             return [self.row(row) for row in range(self.size[0])]
 
-    def cell(self, row, col):
+    def cell(self, row: int, col: int) -> Cell:
         """One cell."""
         cell, what = _Cell(), f"row {row}, column {col}"
         self._call("cell", _unsigned(row, what), _unsigned(col, what), cell, what=what)
         return _cell(cell)
 
-    def cells(self, row):
+    def cells(self, row: int) -> list[Cell]:
         """The cells of a row, from its left."""
         cells, what = (_Cell * ROW)(), f"row {row}"
         with self._lock:
             self._call("row", _unsigned(row, what), cells, ROW, what=what)
             return [_cell(cell) for cell in cells[:self.size[1]]]
 
-    def mark(self):
+    def mark(self) -> None:
         """Remembers the cells as they are, for changed_rows."""
         self._call("mark")
 
-    def changed_rows(self):
+    def changed_rows(self) -> list[int]:
         """The numbers of the rows that differ from the cells that mark remembered; all of them, if there are none."""
         rows = (ctypes.c_uint8 * ROW)()
         with self._lock:
             self._call("changed", rows, ROW)
             return [row for row in range(self.size[0]) if rows[row]]
 
-    def resize(self, rows, cols):
+    def resize(self, rows: int, cols: int) -> None:
         """Gives the screen another size."""
         what = f"{rows} rows and {cols} columns: each is 1 to 255"
         self._call("resize", _unsigned(rows, what), _unsigned(cols, what), what=what)
 
     @property
-    def palette(self):
+    def palette(self) -> list[tuple[int, int, int]]:
         """Red, green and blue of the colours 0 to 15, in the order of SGR."""
         colours = (_Colour * COLOURS)()
         self._call("palette", colours, COLOURS)
         return [_parts(colour) for colour in colours]
 
-    def colour(self, number):
+    def colour(self, number: int) -> tuple[int, int, int]:
         """Red, green and blue of a colour, 0 to 15 in the order of SGR."""
         colour, what = _Colour(), f"colour {number}"
         self._call("colour", _unsigned(number, what), colour, what=what)
         return _parts(colour)
 
-    def set_colour(self, number, red, green, blue):
+    def set_colour(self, number: int, red: int, green: int, blue: int) -> None:
         """Sets red, green and blue of a colour, 0 to 15 in the order of SGR."""
         what = f"colour {number}: {red}, {green}, {blue}"
         if not all(0 <= part < 256 for part in (red, green, blue)):
             raise OutOfRange(what)
         self._call("set_colour", _unsigned(number, what), red, green, blue, what=what)
 
-    def set_user(self, words):
+    def set_user(self, words: Iterable[int]) -> None:
         """Sets the user's table of characters (ESC ( K): 256 words."""
         words = list(words)
         if len(words) != 256 or not all(0 <= word < 1 << 16 for word in words):
             raise OutOfRange("a table has 256 words from 0 to 65535")
         self._call("set_user", (ctypes.c_uint16 * 256)(*words))
 
-    def redraw(self):
+    def redraw(self) -> bytes:
         """The text that draws this screen on a terminal of its size. NotDrawable, if there is none."""
         return self._text("redraw", room=4096)
 
-    def redraw_changes(self):
+    def redraw_changes(self) -> bytes:
         """The same for a terminal that shows the cells that mark remembered: only rows that differ are in the text."""
         return self._text("redraw_changes", room=4096)
 
@@ -472,18 +504,21 @@ class Keyboard(_Object):
 
     _kind = "keys"
 
-    def __init__(self, keymap, includes=None, mode=UNICODE):
+    def __init__(
+        self, keymap: str | Bytes, includes: Mapping[str | bytes, str | bytes] | None = None, mode: int = UNICODE
+    ) -> None:
         super().__init__()
         text = _encoded(keymap)
         pairs = [(_encoded(name), _encoded(included)) for name, included in (includes or {}).items()]
-        texts = (_Text * max(1, len(pairs)))(*((name, len(name), text, len(text)) for name, text in pairs))
+        texts = (_Text * max(1, len(pairs)))(
+            *(_Text(name, len(name), included, len(included)) for name, included in pairs))
         fault = _Fault()
         if self._call("new", text, len(text), texts, len(pairs), fault, may=(_FAULT,)) == _FAULT:
             raise KeymapFault(fault.kind, fault.line, fault.column)
         self._key = _Key()
         self.set_mode(mode)
 
-    def scan(self, byte, modes=Modes()):
+    def scan(self, byte: int, modes: Modes = Modes()) -> Event | None:
         """Types one scan byte. Returns what it sends or asks for: Typed, SwitchTo, SwitchLast, SwitchNext,
         SwitchPrevious, Spawn, Attention; or None."""
         if not 0 <= byte < 256:
@@ -492,75 +527,76 @@ class Keyboard(_Object):
             self._call("scan", byte, _Modes(*map(bool, modes)), self._key)
             return _key_event(self._key)
 
-    def type(self, scans, modes=Modes()):
+    def type(self, scans: Iterable[int], modes: Modes = Modes()) -> list[Event]:
         """Types scan bytes. Returns a list of what they send or ask for."""
         return [event for event in (self.scan(byte, modes) for byte in bytes(scans)) if event is not None]
 
-    def release(self):
+    def release(self) -> None:
         """Releases the keys as if the keyboard were unplugged: none of them sends anything."""
         self._call("release")
 
     @property
-    def state(self):
+    def state(self) -> KeyState:
         """The key state."""
         state = _KeyState()
         self._call("state", state)
         return KeyState(*(getattr(state, name) for name in KeyState._fields))
 
-    def set_mode(self, mode):
+    def set_mode(self, mode: int) -> None:
         """Sets the keyboard mode: RAW, XLATE, MEDIUMRAW, UNICODE or OFF."""
         what = f"mode {mode}: a mode is 0 to 4"
         self._call("set_mode", _unsigned(mode, what), what=what)
 
-    def set_meta(self, meta):
+    def set_meta(self, meta: int) -> None:
         """Sets what Meta does: METABIT or ESCPREFIX."""
         what = f"meta {meta}: it is 3 or 4"
         self._call("set_meta", _unsigned(meta, what), what=what)
 
-    def set_flags(self, flags, defaults=0):
+    def set_flags(self, flags: int, defaults: int = 0) -> None:
         """Sets the flags, and those that a reset gives."""
         what = f"flags {flags} and {defaults}: each is 0 to 7"
         self._call("set_flags", _unsigned(flags, what), _unsigned(defaults, what), what=what)
 
-    def set_lights(self, lights):
+    def set_lights(self, lights: int | None) -> None:
         """Sets the lights; None makes them show the flags again."""
         self._call("set_lights", 8 if lights is None else _unsigned(lights, f"lights {lights}"))
 
-    def set_locks(self, locks, sticky=0):
+    def set_locks(self, locks: int, sticky: int = 0) -> None:
         """Sets the locked modifiers, and those for the next key."""
         what = f"modifiers {locks} and {sticky}: each is 0 to 255"
         self._call("set_locks", _unsigned(locks, what), _unsigned(sticky, what), what=what)
 
-    def string(self, number):
+    def string(self, number: int) -> bytes:
         """The string of a function key, 0 to 255."""
         what = f"function key {number}"
         return self._text("string", _unsigned(number, what), room=255, what=what)
 
-    def set_string(self, number, text):
+    def set_string(self, number: int, text: Bytes) -> None:
         """Sets the string of a function key, 0 to 255, to at most 255 bytes."""
         text, what = bytes(text), f"function key {number}, {len(text)} bytes"
         self._call("set_string", _unsigned(number, what), text, len(text), what=what)
 
 
-def _encoded(text):
+def _encoded(text: str | Bytes) -> bytes:
     return text.encode() if isinstance(text, str) else bytes(text)
 
 
-def _parts(colour):
+def _parts(colour: _Colour) -> tuple[int, int, int]:
     return colour.red, colour.green, colour.blue
 
 
-def _cell(cell):
+def _cell(cell: _Cell) -> Cell:
     return Cell("" if cell.code >= HALF else chr(cell.code), cell.code, cell.attr)
 
 
-def _event(out):
-    kinds = {2: lambda: SwitchTo(out.number), 3: SwitchLast, 4: lambda: Lights(out.number), 5: Bell}
+def _event(out: _Out) -> Event:
+    kinds: dict[int, Callable[[], Event]] = {
+        2: lambda: SwitchTo(out.number), 3: SwitchLast, 4: lambda: Lights(out.number), 5: Bell}
     return Report(bytes(out.text[:out.length])) if out.kind == 1 else kinds[out.kind]()
 
 
-def _key_event(key):
-    kinds = {
+def _key_event(key: _Key) -> Event | None:
+    kinds: dict[int, Callable[[], Event | None]] = {
         0: lambda: None, 1: lambda: Typed(bytes(key.bytes[:key.length])), 2: lambda: SwitchTo(key.number),
         3: SwitchLast, 4: SwitchNext, 5: SwitchPrevious, 6: Spawn, 7: Attention}
     return kinds[key.kind]()
