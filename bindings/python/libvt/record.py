@@ -134,7 +134,7 @@ def play(terminal: Terminal, path: str, steps: list[tuple[int, str, Any]], trace
     }  # fmt: skip
     for line, word, value in steps:
         sleep(terminal, 0)
-        if word != "wait" and terminal.exit_status is not None:
+        if word in ("type", "resize") and terminal.exit_status is not None:
             raise Stop(3, f"{path}:{line}: the program ended before this line")
         try:
             does[word](value)
