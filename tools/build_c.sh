@@ -101,17 +101,21 @@ for crate in $crates; do
     (cd "$work/$crate" && ar x "$archive")
     objects="$objects $(echo "$work/$crate"/*.o)"
 done
-"$cc" -std=c11 -O2 -fPIC -Wall -Wextra -Werror -c "$top/c/heap.c" -o "$work/heap.o" || stop "c/heap.c wasn't compiled"
+headers=$(dirname "$top/include/vt.h")
+for file in c/heap.c c/calls.c; do
+    "$cc" -std=c11 -O2 -fPIC -Wall -Wextra -Werror "-I$headers" -c "$top/$file" -o "$work/$(basename "$file" .c).o" ||
+        stop "$file wasn't compiled"
+done
 
 # One object, whose symbols for others are the calls of vt.h.
-ld -r -o "$work/vt.o" $objects "$work/heap.o" || stop "ld joined no object"
-objcopy --wildcard --keep-global-symbol='vt_screen_*' --keep-global-symbol='vt_keys_*' "$work/vt.o" ||
-    stop "objcopy failed"
+ld -r -o "$work/vt.o" $objects "$work/calls.o" "$work/heap.o" || stop "ld joined no object"
+objcopy --wildcard --keep-global-symbol=vt_version --keep-global-symbol='vt_screen_*' --keep-global-symbol='vt_keys_*' \
+    "$work/vt.o" || stop "objcopy failed"
 mkdir -p "$out/include" "$out/lib/pkgconfig" "$out/share/man/man3" || stop "$out can't be made"
 rm -f "$out"/lib/libvt.* "$out/BUILD"
 ar rcsD "$out/lib/libvt.a" "$work/vt.o"
 "$cc" -shared -o "$out/lib/libvt.so.1" "$work/vt.o" -Wl,-soname,libvt.so.1 -Wl,--version-script="$top/c/vt.map" \
-    -Wl,-z,defs -Wl,-z,text -Wl,-z,noexecstack || stop "libvt.so.1 wasn't linked"
+    -Wl,-z,defs -Wl,-z,text -Wl,-z,now -Wl,-z,noexecstack || stop "libvt.so.1 wasn't linked"
 ln -s libvt.so.1 "$out/lib/libvt.so"
 cp "$top/include/vt.h" "$out/include/vt.h"
 cp "$top/man/vt.3" "$out/share/man/man3/vt.3"

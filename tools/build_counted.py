@@ -3,9 +3,9 @@
 
 usage: tools/build_counted.py [FOLDER]
 
-FOLDER (out/counted in the clone) gets vt.o: the calls of vt.h, to be linked with c/heap.c and a program that clang made
-with -fsanitize=fuzzer. It stays if it was made of the same sources. tools/build.py has how code is made without proofs;
-tools/fuzz_c.sh fuzzes it.
+FOLDER (out/counted in the clone) gets vt.o: the calls of the crates, to be linked with c/heap.c, c/calls.c and a program
+that clang made with -fsanitize=fuzzer. It stays if it was made of the same sources. tools/build.py has how code is made
+without proofs; tools/fuzz_c.sh fuzzes it.
 
 Statuses: 0 the object is there; 1 a source isn't compiled, or a step failed; 2 the words aren't of the form, or the
 toolchain isn't there or can't do this.

@@ -1,15 +1,16 @@
 #!/usr/bin/env python3
 """Builds the C library from this clone and checks it, its examples and its bindings.
 
-usage: check_c.py [--library OUT | --gate] [--vt PROGRAM] [--only CHECK,..] [--runs N]
+usage: check_c.py [--library OUT | --gate] [--vt PROGRAM] [--only CHECK,..] [--add-interface] [--runs N]
 
-- `header`: vt.h is C11 and C++17; the library has the calls of vt.h and no other symbol; the Python package has its
-  layout.
+- `header`: vt.h is C99 to C2x and C++11 to C++20, also after <term.h>, and has each line of c/interface.txt; the library
+  has the calls of vt.h and no other symbol; the Python package has its layout.
 - `codes`: each code of each call, plainly, with sanitizers, and under valgrind without a leak.
 - `cuts`, `outs`, `workloads`: the recordings of examples/ in pieces of 1, 7, 64, 4,096 bytes and whole, with room for
   0, 1, 2, 64 and 5,000 outs; a text that asks for thousands of things in eight cuts; the ten workloads of
   bench/inputs.py. The rows are those that `vt screen` prints.
-- `memory`: each request for memory refused once. `threads`: handles that go between threads, under helgrind.
+- `memory`: each request for memory refused once. `threads`: handles that go between threads, and eight threads that
+  read one handle at once, under helgrind too.
 - `keys`, `faults`: N random runs of keys (1,000) are typed as `vt type` does; faults of keymaps are those of `vt keys`.
 - `terminal`: examples/c/term.c on a pseudo-terminal. `programs`: vim, less, htop, dialog and mc in it, in tmux.
 - `python`, `rust`: the tests of the bindings. `fuzz`: the fuzzer's corpus (tools/fuzz_c.sh looks for more).
@@ -36,7 +37,7 @@ import tempfile
 sys.dont_write_bytecode = True
 
 import package  # noqa: E402: after the line that keeps tools/ clean
-from c_library import drawn, guide, programs, terminal, typed  # noqa: E402
+from c_library import drawn, guide, interface, programs, terminal, typed  # noqa: E402
 from c_library.bench import (  # noqa: E402
     EXAMPLES, SANITIZERS, TESTS, TOP, VALGRIND, WARNINGS, Bench, Missing)
 from programs import find_for_check  # noqa: E402
@@ -53,7 +54,7 @@ WRAPPED = [f"-Wl,--wrap={name}" for name in ("malloc", "realloc", "free")]
 
 def calls_of_header():
     """The names of the calls that vt.h has."""
-    return set(re.findall(r"^(?:uint8_t|void) (vt_\w+)\(", HEADER.read_text(encoding="utf-8"), re.M))
+    return set(re.findall(r"^(?:uint8_t|uint32_t|void) (vt_\w+)\(", HEADER.read_text(encoding="utf-8"), re.M))
 
 
 def binding(bench):
@@ -65,12 +66,14 @@ def binding(bench):
 
 def check_header(bench):
     bench.needs("nm", "readelf")
-    for language, standard, compiler in (("c", "c11", "cc"), ("c", "c2x", "cc"), ("c++", "c++17", "c++")):
+    for language, standards, compiler in (("c", ("c99", "c11", "c2x"), "cc"), ("c++", ("c++11", "c++17", "c++20"), "c++")):
         if not shutil.which(compiler):
-            bench.skip(f"vt.h as {standard}", f"{compiler} isn't there")
+            bench.skip(f"vt.h in {language}", f"{compiler} isn't there")
             continue
-        words = [compiler, "-x", language, f"-std={standard}", *WARNINGS, "-pedantic", "-fsyntax-only", HEADER]
-        bench.ends_well(words, f"vt.h as {standard}")
+        for standard in standards:
+            words = [compiler, "-x", language, f"-std={standard}", *WARNINGS, "-pedantic", "-fsyntax-only", HEADER]
+            bench.ends_well(words, f"vt.h as {standard}")
+    check_header_beside(bench)
     calls = calls_of_header()
     for name, option in (("libvt.a", "-g"), ("libvt.so.1", "-D")):
         ran = bench.run(["nm", option, "--defined-only", bench.library / "lib" / name])
@@ -83,7 +86,31 @@ def check_header(bench):
     bench.holds("TEXTREL" not in said, "libvt.so.1 has no relocations in its text")
     layout = bench.compiled("layout", [TESTS / "layout.c"])
     if layout:
-        compare_layout(bench, bench.run([layout]).stdout.decode().splitlines())
+        lines = bench.run([layout]).stdout.decode().splitlines()
+        compare_layout(bench, lines)
+        if interface.ADDS:
+            interface.add(lines)
+        found = interface.faults(lines)
+        bench.holds(not found, "the interface of libvt.so.1 is that of the file:\n" + "\n".join(found))
+    version = re.search(r'^\.Os "vt (\d+)\.(\d+)\.(\d+)"$', (TOP / "man/vt.3").read_text(encoding="utf-8"), re.M)
+    wanted = int(version[1]) << 16 | int(version[2]) << 8 | int(version[3])
+    bench.holds(f"#define VT_VERSION {wanted:#08x}\n" in HEADER.read_text(encoding="utf-8"), "VT_VERSION is that of vt(3)")
+
+
+def check_header_beside(bench):
+    """The header after those of terminfo and of the console, whose macros stay clear of it, and with all of clang's
+    warnings."""
+    text = b"#include <linux/vt.h>\n#include <linux/kd.h>\n#include <linux/keyboard.h>\n#include <vt.h>\n"
+    words = ["cc", "-x", "c", *WARNINGS, "-fsyntax-only", "-I", HEADER.parent, "-"]
+    bench.ends_well(words, "vt.h after the headers of the console", text)
+    if bench.run(words, b"#include <term.h>\n").returncode == 0:
+        bench.ends_well(words, "vt.h after term.h", b"#include <curses.h>\n#include <term.h>\n#include <vt.h>\n")
+    else:
+        bench.skip("vt.h after term.h", "term.h isn't there; Debian's package libncurses-dev has it")
+    if shutil.which("clang"):
+        words = ["clang", "-x", "c", "-std=c11", "-Weverything", "-Werror", "-Wno-unused-macros", "-fsyntax-only", "-I",
+                 HEADER.parent, "-"]
+        bench.ends_well(words, "vt.h with -Weverything", b"#include <vt.h>\n")
 
 
 def compare_layout(bench, lines):
@@ -122,12 +149,13 @@ def check_memory(bench):
 
 
 def check_threads(bench):
-    program = bench.compiled("threads", [TESTS / "threads.c"], ["-pthread"])
-    if program:
-        bench.ends_well([program], "threads.c")
-        bench.needs("valgrind")
-        words = ["valgrind", "-q", "--tool=helgrind", "--error-exitcode=99", program]
-        bench.ends_well(words, "threads.c under helgrind")
+    for name in ("threads", "readers"):
+        program = bench.compiled(name, [TESTS / f"{name}.c"], ["-pthread"])
+        if program:
+            bench.ends_well([program, *["2000"] * (name == "readers")], f"{name}.c")
+            bench.needs("valgrind")
+            words = ["valgrind", "-q", "--tool=helgrind", "--error-exitcode=99", program]
+            bench.ends_well(words, f"{name}.c under helgrind")
 
 
 def check_python(bench):
@@ -239,8 +267,10 @@ def main():
     words.add_argument("--gate", action="store_true", help="the library is built over the crates that rt ci just left")
     words.add_argument("--vt", metavar="PROGRAM", help="the program vt; the one that tools/programs.py finds without it")
     words.add_argument("--only", default=",".join(CHECKS), metavar="CHECK,..", help=", ".join(CHECKS))
+    words.add_argument("--add-interface", action="store_true", help="c/interface.txt gets what vt.h has more")
     words.add_argument("--runs", default="1000", metavar="N", help="how many random runs of keys")
     given = words.parse_args()
+    interface.ADDS = given.add_interface
     names = given.only.split(",")
     unknown = [name for name in names if name not in CHECKS]
     if unknown:

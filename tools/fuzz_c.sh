@@ -41,6 +41,7 @@ case $seconds in '' | *[!0-9]* | ??????*) stop "$seconds: seconds from 0 to 9999
 command -v clang > /dev/null || stop "clang isn't there"
 [ -z "$keep" ] || [ -z "$library" ] || stop "--keep wants a library that is counted, so no --library"
 
+headers="-I$top/include"
 work=$(mktemp -d)
 trap 'rm -rf "$work"' EXIT
 trap 'exit 1' HUP INT TERM
@@ -48,11 +49,13 @@ if [ -n "$library" ]; then
     set -- "$library/lib/libvt.a"
 else
     "$top/tools/build_counted.py" "$top/out/counted" || stop "the library isn't built"
-    clang -std=c11 -O2 -c "$top/c/heap.c" -o "$work/heap.o" || stop "c/heap.c isn't compiled"
-    set -- "$top/out/counted/vt.o" "$work/heap.o"
+    for file in c/heap.c c/calls.c; do
+        clang -std=c11 -O2 "$headers" -c "$top/$file" -o "$work/$(basename "$file" .c).o" || stop "$file isn't compiled"
+    done
+    set -- "$top/out/counted/vt.o" "$work/calls.o" "$work/heap.o"
 fi
 clang -std=c11 -O1 -g -Wall -Wextra -Werror -fsanitize=fuzzer,address,undefined -fno-sanitize-recover=all \
-    "-I$top/include" -o "$work/fuzz" "$top/c/test/fuzz.c" "$@" 2> "$work/why" || {
+    "$headers" -o "$work/fuzz" "$top/c/test/fuzz.c" "$@" 2> "$work/why" || {
     head -n 5 "$work/why" >&2
     grep -q 'fuzzer' "$work/why" && exit 77
     stop "c/test/fuzz.c isn't compiled"

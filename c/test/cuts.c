@@ -35,7 +35,7 @@ static void feed(struct vt_screen *s, const uint8_t *piece, size_t n, struct vt_
 {
     static const struct vt_out mark = { .kind = 77, .number = 88, .length = 3, .text = "..." };
     for (size_t at = 0; at < n;) {
-        struct vt_fed fed = { 0, 0 };
+        struct vt_fed fed = { 0, 0, { 0, 0 } };
         for (size_t i = 0; i <= room; i++)
             outs[i] = mark;
         uint8_t *exact = malloc(n - at); /* so that a read past its end is seen */
@@ -44,12 +44,12 @@ static void feed(struct vt_screen *s, const uint8_t *piece, size_t n, struct vt_
         memcpy(exact, piece + at, n - at);
         WANT(vt_screen_feed(s, exact, n - at, outs, room, &fed) == VT_OK);
         free(exact);
-        WANT(fed.taken <= n - at && fed.said <= room);
+        WANT(fed.taken <= n - at && fed.outs <= room);
         WANT(fed.taken > 0);
-        WANT(fed.taken == n - at || fed.said == room);
-        for (size_t i = 0; i < fed.said; i++)
+        WANT(fed.taken == n - at || fed.outs == room);
+        for (size_t i = 0; i < fed.outs; i++)
             print_out(file, &outs[i]);
-        for (size_t i = fed.said; i <= room; i++)
+        for (size_t i = fed.outs; i <= room; i++)
             WANT(memcmp(&outs[i], &mark, sizeof mark) == 0);
         at += fed.taken;
         if (failed > 0)

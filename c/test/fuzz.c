@@ -106,8 +106,8 @@ static void feed(struct pair *p)
         size_t n = 1 + byte() % 64u;
         n = n < length - at ? n : length - at;
         must(vt_screen_feed(&p->fed, text + at, n, outs, room, &fed) == VT_OK);
-        must(fed.taken <= n && fed.said <= room && (fed.taken == n || fed.said == room));
-        for (size_t i = 0; i < fed.said; i++)
+        must(fed.taken <= n && fed.outs <= room && (fed.taken == n || fed.outs == room));
+        for (size_t i = 0; i < fed.outs; i++)
             must(outs[i].kind >= VT_REPORT && outs[i].kind <= VT_BELL && outs[i].length <= 16);
         at += fed.taken;
         if (room == 0)
@@ -148,15 +148,12 @@ static void set(struct pair *p)
     uint32_t n = number();
     uint8_t red = byte(), green = byte(), blue = byte();
     uint8_t wanted = !p->is_made ? VT_NOTHING : n < 16 ? VT_OK : VT_RANGE;
-    struct vt_colour colour;
     uint16_t words[256];
     must(vt_screen_set_colour(&p->fed, n, red, green, blue) == wanted);
     must(vt_screen_set_colour(&p->written, n, red, green, blue) == wanted);
-    must(vt_screen_colour(&p->fed, n, &colour) == wanted);
     struct vt_colour all[16];
     must(vt_screen_palette(&p->fed, all, 16) == (p->is_made ? VT_OK : VT_NOTHING));
     must(wanted != VT_OK || (all[n].red == red && all[n].green == green && all[n].blue == blue));
-    must(wanted != VT_OK || (colour.red == red && colour.green == green && colour.blue == blue));
     for (int i = 0; i < 256; i++)
         words[i] = (uint16_t)(n * (uint32_t)i);
     must(vt_screen_set_user(&p->fed, words) == (p->is_made ? VT_OK : VT_NOTHING));
@@ -224,7 +221,7 @@ static void make_keys(struct vt_keys *k)
     size_t length, name, included;
     uint8_t *text = piece(&length), *first = piece(&name), *second = piece(&included);
     struct vt_text texts[2] = { { first, name, second, included }, { second, included, first, name } };
-    struct vt_fault fault = { 0, 0, 0 };
+    struct vt_fault fault = { 0, 0, 0, 0 };
     bool was_made = k->at != NULL;
     uint8_t code = vt_keys_new(k, text, length, texts, byte() % 3, &fault);
     must(was_made ? code == VT_MADE : code == VT_OK || code == VT_FAULT);
@@ -232,35 +229,54 @@ static void make_keys(struct vt_keys *k)
     free(text), free(first), free(second);
 }
 
-static void type(struct vt_keys *k)
+static bool is_state(const struct vt_key_state *state)
+{
+    return state->mode <= 4 && (state->meta == VT_METABIT || state->meta == VT_ESCPREFIX) && state->flags <= 7 &&
+           state->defaults <= 7 && (state->lights <= 7 || state->lights == VT_LIGHTS_FOLLOW);
+}
+
+/* Types scan bytes or keycodes into a console. */
+static void type(struct vt_keys *k, struct vt_key_state *state)
 {
     size_t length;
     uint8_t *scans = piece(&length), bits = byte();
-    struct vt_modes modes = { bits & 1, bits & 2, bits & 4, bits & 8 };
+    struct vt_modes modes = { bits & 1, bits & 2, bits & 4, bits & 8, { 0 } };
     struct vt_key key;
     uint8_t wanted = k->at ? VT_OK : VT_NOTHING;
     for (size_t i = 0; i < length; i++) {
-        must(vt_keys_scan(k, scans[i], &modes, &key) == wanted);
-        must(wanted != VT_OK || (key.kind <= VT_KEY_ATTENTION && key.length <= 512));
+        if (bits & 16)
+            must(vt_keys_key(k, scans[i], bits & 32, &modes, state, &key) ==
+                 (wanted == VT_OK && scans[i] == 0 ? VT_RANGE : wanted));
+        else
+            must(vt_keys_scan(k, scans[i], &modes, state, &key) == wanted);
+        must(wanted != VT_OK || scans[i] == 0 || (key.kind <= VT_KEY_ATTENTION && key.length <= 512));
+        must(is_state(state));
     }
     free(scans);
 }
 
-static void set_keys(struct vt_keys *k)
+static void set_keys(struct vt_keys *k, struct vt_key_state *state)
 {
     uint32_t a = number(), b = number();
     size_t length, room = byte() % 3 * 128u, found;
     uint8_t *text = piece(&length), string[256], wanted;
-    struct vt_key_state state;
-    bool is_made = k->at != NULL;
+    struct vt_modes modes = VT_MODES_START;
+    uint8_t c = (uint8_t)a, d = (uint8_t)b;
+    struct vt_key_state other = { c, d, c, d, c, d, c, { 0 } };
+    struct vt_action action = { 0, 0 };
+    struct vt_key key;
+    uint32_t keycode = 0;
+    bool is_made = k->at != NULL, is_scan = (a >= 1 && a <= 127) || (a >= 129 && a <= 255);
 #define CODE(is_good) (wanted = !is_made ? VT_NOTHING : (is_good) ? VT_OK : VT_RANGE)
-    must(vt_keys_set_mode(k, a) == CODE(a <= 4));
-    must(vt_keys_set_meta(k, b) == CODE(b == 3 || b == 4));
-    must(vt_keys_set_flags(k, a, b) == CODE(a <= 7 && b <= 7));
-    must(vt_keys_set_lights(k, a) == CODE(true));
-    must(vt_keys_set_locks(k, a, b) == CODE(a <= 255 && b <= 255));
-    must(vt_keys_state(k, &state) == CODE(true));
-    must(!is_made || (state.mode <= 4 && state.flags <= 7 && state.lights <= 7));
+    must(vt_keys_scan(k, 0x9E, &modes, &other, &key) == CODE(is_state(&other)));
+    if (wanted == VT_OK)
+        *state = other;
+    must(vt_keys_set_keycode(k, a, b) == CODE(is_scan && b <= 255));
+    bool is_kept = wanted == VT_OK;
+    must(vt_keys_keycode(k, a, &keycode) == CODE(is_scan) && (!is_kept || keycode == b));
+    must(vt_keys_entry(k, a, b, &action) == CODE(a <= 255 && b >= 1 && b <= 255));
+    if (wanted == VT_OK)
+        must(vt_keys_set_entry(k, a, b, &action) == (action.kind == VT_ACTION_NO_TABLE ? VT_RANGE : VT_OK));
     must(vt_keys_set_string(k, a, text, length) == CODE(a <= 255 && length <= 255));
     bool is_set = wanted == VT_OK;
     uint8_t code = vt_keys_string(k, a, string, room, &found);
@@ -274,6 +290,8 @@ int LLVMFuzzerTestOneInput(const uint8_t *data, size_t size)
 {
     static struct pair pairs[2];
     static struct vt_keys keys[2];
+    static const struct vt_key_state start = VT_KEY_STATE_START;
+    struct vt_key_state states[2] = { start, start };
     input = data, left = size;
     for (int calls = 0; left > 0 && calls < MOST; calls++) {
         uint8_t which = byte();
@@ -290,8 +308,8 @@ int LLVMFuzzerTestOneInput(const uint8_t *data, size_t size)
         case 9: redraw(p); break;
         case 10: make_keys(k); break;
         case 11: vt_keys_free(k); break;
-        case 12: type(k); break;
-        case 13: set_keys(k); break;
+        case 12: type(k, &states[which >> 6 & 1]); break;
+        case 13: set_keys(k, &states[which >> 6 & 1]); break;
         case 14: must(vt_keys_release(k) == (k->at ? VT_OK : VT_NOTHING)); break;
         default: same_screens(p);
         }

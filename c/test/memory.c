@@ -74,6 +74,7 @@ static uint8_t row_text(void) { return vt_screen_row_text(&screen, 0, room, size
 static uint8_t mark(void) { return vt_screen_mark(&screen); }
 static uint8_t resize(void) { return vt_screen_resize(&screen, 30, 40); }
 static uint8_t redraw(void) { return vt_screen_redraw(&screen, room, sizeof room, &length); }
+static uint8_t picture(void) { return vt_screen_picture(&screen, room, sizeof room, &length); }
 static uint8_t changes(void) { return vt_screen_redraw_changes(&screen, room, sizeof room, &length); }
 static uint8_t make_keys(void) { return vt_keys_new(&keys, KEYMAP, sizeof KEYMAP - 1, TEXTS, 1, &fault); }
 
@@ -117,7 +118,7 @@ static unsigned long try_each(uint8_t (*call)(void), bool is_there)
 
 int main(void)
 {
-    unsigned long counts[7];
+    unsigned long counts[8];
     counts[0] = try_each(make, false);
     WANT(vt_screen_write(&screen, TEXT, sizeof TEXT - 1) == VT_OK);
     counts[1] = try_each(row_text, true);
@@ -125,6 +126,7 @@ int main(void)
     counts[3] = try_each(redraw, true);
     counts[4] = try_each(changes, true);
     counts[5] = try_each(resize, true);
+    counts[7] = try_each(picture, true);
     /* Calls that ask for none. */
     struct vt_out outs[8];
     struct vt_fed fed;
@@ -139,14 +141,22 @@ int main(void)
     WANT(blocks == 0 && screen.at == NULL);
     counts[6] = try_each(make_keys, false);
     struct vt_key key;
-    static const struct vt_modes modes = { .repeat = 1 };
+    static const struct vt_modes modes = VT_MODES_START;
+    struct vt_key_state state = VT_KEY_STATE_START;
     asked = 0;
     for (int i = 0; i < 1000; i++)
-        WANT(vt_keys_scan(&keys, (uint8_t)(30 + i % 2 * 128), &modes, &key) == VT_OK);
+        WANT(vt_keys_scan(&keys, (uint8_t)(30 + i % 2 * 128), &modes, &state, &key) == VT_OK);
     WANT(asked == 0);
+    struct vt_pair pairs[1];
+    size_t count = 9;
+    asked = 0, refused = 1;
+    WANT(vt_keys_pairs(&keys, pairs, 1, &count) == VT_NO_MEMORY && count == 9);
+    refused = 0;
+    WANT(vt_keys_pairs(&keys, pairs, 1, &count) == VT_OK && count == 1);
     vt_keys_free(&keys);
     WANT(blocks == 0 && keys.at == NULL);
-    printf("requests: new %lu, row_text %lu, mark %lu, redraw %lu, redraw_changes %lu, resize %lu, keys_new %lu\n",
-           counts[0], counts[1], counts[2], counts[3], counts[4], counts[5], counts[6]);
+    printf("requests: new %lu, row_text %lu, mark %lu, redraw %lu, redraw_changes %lu, resize %lu, keys_new %lu, "
+           "picture %lu\n",
+           counts[0], counts[1], counts[2], counts[3], counts[4], counts[5], counts[6], counts[7]);
     return ended();
 }

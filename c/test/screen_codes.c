@@ -25,8 +25,16 @@ static void take(struct vt_screen *s, struct picture *p)
     WANT(vt_screen_state(s, &p->state) == VT_OK);
     for (uint32_t y = 0; y < p->state.rows; y++)
         WANT(vt_screen_row(s, y, p->cells[y], 255) == VT_OK);
-    for (uint32_t i = 0; i < 16; i++)
-        WANT(vt_screen_colour(s, i, &p->colours[i]) == VT_OK);
+    WANT(vt_screen_palette(s, p->colours, 16) == VT_OK);
+}
+
+/* Whether a colour of the screen has these parts. */
+static bool is_colour(const struct vt_screen *s, uint32_t number, uint8_t red, uint8_t green, uint8_t blue)
+{
+    struct vt_colour colours[16];
+    WANT(vt_screen_palette(s, colours, 16) == VT_OK);
+    struct vt_colour c = colours[number];
+    return c.red == red && c.green == green && c.blue == blue && c.spare == 0;
 }
 
 static bool is_same_cell(struct vt_cell a, struct vt_cell b)
@@ -57,17 +65,17 @@ static struct picture before, after;
 
 static void try_nothing(struct vt_screen *s)
 {
-    struct vt_fed fed = { 7, 7 };
+    struct vt_fed fed = { 7, 7, { 7, 7 } };
     struct vt_out out = { .kind = 9 };
     struct vt_state state = { .rows = 9 };
-    struct vt_cell cell = { 9, 9 };
-    struct vt_colour colour = { 9, 9, 9 };
+    struct vt_cell cell = { 9, 9, { 9, 9, 9 } };
+    struct vt_colour colour = { 9, 9, 9, 9 };
     uint8_t text[4] = { 9, 9, 9, 9 };
     size_t length = 9;
     uint8_t changed = 9;
     static const uint16_t words[256];
     WANT(vt_screen_feed(s, TEXT, sizeof TEXT, &out, 1, &fed) == VT_NOTHING);
-    WANT(fed.taken == 7 && fed.said == 7 && out.kind == 9);
+    WANT(fed.taken == 7 && fed.outs == 7 && out.kind == 9);
     WANT(vt_screen_write(s, TEXT, sizeof TEXT) == VT_NOTHING);
     WANT(vt_screen_state(s, &state) == VT_NOTHING && state.rows == 9);
     WANT(vt_screen_cell(s, 0, 0, &cell) == VT_NOTHING && cell.code == 9 && cell.attr == 9);
@@ -76,12 +84,12 @@ static void try_nothing(struct vt_screen *s)
     WANT(vt_screen_mark(s) == VT_NOTHING);
     WANT(vt_screen_changed(s, &changed, 1) == VT_NOTHING && changed == 9);
     WANT(vt_screen_resize(s, 4, 4) == VT_NOTHING);
-    WANT(vt_screen_colour(s, 0, &colour) == VT_NOTHING && colour.red == 9);
     WANT(vt_screen_palette(s, &colour, 1) == VT_NOTHING && colour.red == 9);
     WANT(vt_screen_set_colour(s, 0, 1, 2, 3) == VT_NOTHING);
     WANT(vt_screen_set_user(s, words) == VT_NOTHING);
     WANT(vt_screen_redraw(s, text, 4, &length) == VT_NOTHING && length == 9);
     WANT(vt_screen_redraw_changes(s, text, 4, &length) == VT_NOTHING && length == 9);
+    WANT(vt_screen_picture(s, text, 4, &length) == VT_NOTHING && length == 9);
     vt_screen_free(s);
     WANT(s->at == NULL);
 }
@@ -100,8 +108,9 @@ static void try_making(void)
             struct vt_state state;
             WANT(vt_screen_new(&s, rows, cols) == VT_OK);
             WANT(vt_screen_state(&s, &state) == VT_OK && state.rows == rows && state.cols == cols);
-            WANT(state.y == 0 && state.x == 0 && state.visible && state.repeat);
-            WANT(!state.reverse && !state.cursor_keys && !state.keypad && !state.newline);
+            WANT(state.y == 0 && state.x == 0 && state.visible);
+            WANT(!state.reverse && !state.modes.cursor_keys && !state.modes.keypad && !state.modes.newline_mode);
+            WANT(!state.origin && state.autowrap && !state.insert && !state.controls && state.modes.repeat);
             vt_screen_free(&s);
         }
     try_nothing(&s); /* a freed handle is one that was never made */
@@ -111,7 +120,7 @@ static void try_screen(void)
 {
     static const uint8_t row_0[] = "abc   ", row_1[] = "  \xC3\xA9\xE4\xB8\xAD ";
     struct vt_screen s = { 0 };
-    struct vt_cell cell, cells[8] = { [6] = { 9, 9 }, [7] = { 9, 9 } };
+    struct vt_cell cell, cells[8] = { [6] = { 9, 9, { 9 } }, [7] = { 9, 9, { 9 } } };
     struct vt_state state;
     uint8_t text[24];
     size_t length;
@@ -162,7 +171,7 @@ static void try_feeding(void)
     memset(outs, 9, sizeof outs);
     WANT(vt_screen_new(&s, 2, 9) == VT_OK);
     WANT(vt_screen_feed(&s, asking, sizeof asking - 1, outs, 9, &fed) == VT_OK);
-    WANT(fed.taken == sizeof asking - 1 && fed.said == 7);
+    WANT(fed.taken == sizeof asking - 1 && fed.outs == 7);
     WANT(outs[0].kind == VT_BELL);
     WANT(outs[1].kind == VT_REPORT && outs[1].length == 4 && memcmp(outs[1].text, "\033[0n", 4) == 0);
     WANT(outs[2].kind == VT_REPORT && outs[2].length == 6 && memcmp(outs[2].text, "\033[1;2R", 6) == 0);
@@ -176,14 +185,14 @@ static void try_feeding(void)
     size_t at = 0;
     for (size_t i = 0; i < 7; i++) {
         WANT(vt_screen_feed(&s, asking + at, sizeof asking - 1 - at, outs, 1, &fed) == VT_OK);
-        WANT(fed.taken == ends[i] && fed.said == 1);
+        WANT(fed.taken == ends[i] && fed.outs == 1);
         at += fed.taken;
     }
-    WANT(vt_screen_feed(&s, asking + at, 1, outs, 1, &fed) == VT_OK && fed.taken == 1 && fed.said == 0);
+    WANT(vt_screen_feed(&s, asking + at, 1, outs, 1, &fed) == VT_OK && fed.taken == 1 && fed.outs == 0);
     LEAVES(&s, vt_screen_feed(&s, asking, sizeof asking - 1, outs, 0, &fed), VT_OK);
-    WANT(fed.taken == 0 && fed.said == 0);
+    WANT(fed.taken == 0 && fed.outs == 0);
     LEAVES(&s, vt_screen_feed(&s, asking, 0, outs, 9, &fed), VT_OK);
-    WANT(fed.taken == 0 && fed.said == 0);
+    WANT(fed.taken == 0 && fed.outs == 0);
     LEAVES(&s, vt_screen_write(&s, asking, 0), VT_OK);
     vt_screen_free(&s);
 }
@@ -191,24 +200,20 @@ static void try_feeding(void)
 static void try_settings(void)
 {
     struct vt_screen s = { 0 };
-    struct vt_colour colour;
     struct vt_state state;
     struct vt_cell cell;
     uint16_t words[256];
     WANT(vt_screen_new(&s, 2, 4) == VT_OK);
     /* The colours of the VGA: 170 for a part, bright ones 85 more. */
-    WANT(vt_screen_colour(&s, 1, &colour) == VT_OK && colour.red == 170 && colour.green == 0 && colour.blue == 0);
-    WANT(vt_screen_colour(&s, 12, &colour) == VT_OK && colour.red == 85 && colour.green == 85 && colour.blue == 255);
-    struct vt_colour palette[17] = { [8] = { 9, 9, 9 }, [16] = { 9, 9, 9 } };
+    WANT(is_colour(&s, 1, 170, 0, 0) && is_colour(&s, 12, 85, 85, 255));
+    struct vt_colour palette[17] = { [8] = { 9, 9, 9, 9 }, [16] = { 9, 9, 9, 9 } };
     WANT(vt_screen_palette(&s, palette, 8) == VT_OK && palette[7].blue == 170 && palette[8].blue == 9);
     WANT(vt_screen_palette(&s, palette, 17) == VT_OK && palette[15].red == 255 && palette[16].red == 9);
     WANT(vt_screen_palette(&s, palette, 0) == VT_OK && palette[0].red == 0);
     WANT(vt_screen_set_colour(&s, 12, 1, 2, 3) == VT_OK);
-    WANT(vt_screen_colour(&s, 12, &colour) == VT_OK && colour.red == 1 && colour.green == 2 && colour.blue == 3);
+    WANT(is_colour(&s, 12, 1, 2, 3));
     WANT(drawn(&s, "\033]P5102030"));
-    WANT(vt_screen_colour(&s, 5, &colour) == VT_OK && colour.red == 16 && colour.green == 32 && colour.blue == 48);
-    LEAVES(&s, vt_screen_colour(&s, 16, &colour), VT_RANGE);
-    LEAVES(&s, vt_screen_colour(&s, 256, &colour), VT_RANGE);
+    WANT(is_colour(&s, 5, 16, 32, 48));
     LEAVES(&s, vt_screen_set_colour(&s, 16, 1, 1, 1), VT_RANGE);
     LEAVES(&s, vt_screen_set_colour(&s, UINT32_MAX, 1, 1, 1), VT_RANGE);
     for (unsigned i = 0; i < 256; i++)
@@ -216,9 +221,10 @@ static void try_settings(void)
     WANT(vt_screen_set_user(&s, words) == VT_OK);
     WANT(drawn(&s, "\033%@\033(Ka\033(B\033%G"));
     WANT(vt_screen_cell(&s, 0, 0, &cell) == VT_OK && cell.code == 0x3B1 + 'a');
-    WANT(drawn(&s, "\033[?1h\033=\033[20h\033[?8l\033[?25l\033[?5h"));
-    WANT(vt_screen_state(&s, &state) == VT_OK && state.cursor_keys && state.keypad && state.newline);
-    WANT(!state.repeat && !state.visible && state.reverse);
+    WANT(drawn(&s, "\033[?1h\033=\033[20h\033[?8l\033[?25l\033[?5h\033[?6h\033[?7l\033[4h\033[3h"));
+    WANT(vt_screen_state(&s, &state) == VT_OK && state.modes.cursor_keys && state.modes.keypad);
+    WANT(state.modes.newline_mode && !state.modes.repeat && !state.visible && state.reverse);
+    WANT(state.origin && !state.autowrap && state.insert && state.controls);
     LEAVES(&s, vt_screen_resize(&s, 0, 4), VT_RANGE);
     LEAVES(&s, vt_screen_resize(&s, 2, 256), VT_RANGE);
     LEAVES(&s, vt_screen_resize(&s, UINT32_MAX, UINT32_MAX), VT_RANGE);
@@ -253,6 +259,9 @@ static void try_changes(void)
     WANT(vt_screen_resize(&s, 2, 4) == VT_OK);
     changed[2] = 9;
     WANT(vt_screen_changed(&s, changed, 4) == VT_OK && changed[0] == 1 && changed[1] == 1 && changed[2] == 9);
+    /* A resize forgets the mark, also one to the same size. */
+    WANT(vt_screen_mark(&s) == VT_OK && vt_screen_resize(&s, 2, 4) == VT_OK);
+    WANT(vt_screen_changed(&s, changed, 4) == VT_OK && changed[0] == 1 && changed[1] == 1);
     vt_screen_free(&s);
 }
 
@@ -315,6 +324,60 @@ static void try_redraw_of_changes(void)
     vt_screen_free(&other);
 }
 
+static void try_picture(void)
+{
+    static const char begin[] = "<svg xmlns='http://www.w3.org/2000/svg'", end[] = "</svg>\n";
+    struct vt_screen s = { 0 };
+    uint8_t text[4096];
+    size_t length, again;
+    WANT(vt_screen_new(&s, 2, 4) == VT_OK && drawn(&s, "a<"));
+    LEAVES(&s, vt_screen_picture(&s, text, sizeof text, &length), VT_OK);
+    WANT(length > sizeof begin + sizeof end && memcmp(text, begin, sizeof begin - 1) == 0);
+    WANT(memcmp(text + length - (sizeof end - 1), end, sizeof end - 1) == 0);
+    text[0] = 9;
+    LEAVES(&s, vt_screen_picture(&s, text, length - 1, &again), VT_NO_ROOM);
+    WANT(again == length && text[0] == 9);
+    vt_screen_free(&s);
+}
+
+/* A pointer with the length 0 may be null. */
+static void try_null(void)
+{
+    struct vt_screen s = { 0 };
+    struct vt_fed fed = { 7, 7, { 7, 7 } };
+    struct vt_out out = { .kind = 9 };
+    size_t length;
+    WANT(vt_screen_new(&s, 2, 4) == VT_OK);
+    LEAVES(&s, vt_screen_feed(&s, NULL, 0, &out, 1, &fed), VT_OK);
+    WANT(fed.taken == 0 && fed.outs == 0 && fed.spare[0] == 0 && fed.spare[1] == 0 && out.kind == 9);
+    LEAVES(&s, vt_screen_feed(&s, TEXT, 1, NULL, 0, &fed), VT_OK);
+    WANT(fed.taken == 0 && fed.outs == 0);
+    LEAVES(&s, vt_screen_write(&s, NULL, 0), VT_OK);
+    LEAVES(&s, vt_screen_row(&s, 0, NULL, 0), VT_OK);
+    LEAVES(&s, vt_screen_row_text(&s, 0, NULL, 0, &length), VT_NO_ROOM);
+    WANT(length == 4);
+    LEAVES(&s, vt_screen_changed(&s, NULL, 0), VT_OK);
+    LEAVES(&s, vt_screen_palette(&s, NULL, 0), VT_OK);
+    LEAVES(&s, vt_screen_redraw(&s, NULL, 0, &length), VT_NO_ROOM);
+    LEAVES(&s, vt_screen_redraw_changes(&s, NULL, 0, &length), VT_NO_ROOM);
+    LEAVES(&s, vt_screen_picture(&s, NULL, 0, &length), VT_NO_ROOM);
+    vt_screen_free(&s);
+}
+
+/* A handle may be moved, and the version is that of the header. */
+static void try_moving(void)
+{
+    struct vt_screen s = { 0 }, moved;
+    struct vt_cell cell;
+    WANT(vt_version() == VT_VERSION);
+    WANT(vt_screen_new(&s, 2, 4) == VT_OK && drawn(&s, "x"));
+    memcpy(&moved, &s, sizeof s);
+    memset(&s, 0, sizeof s);
+    WANT(vt_screen_cell(&moved, 0, 0, &cell) == VT_OK && cell.code == 'x' && cell.attr == 7);
+    WANT(cell.spare[0] == 0 && cell.spare[1] == 0 && cell.spare[2] == 0);
+    vt_screen_free(&moved);
+}
+
 int main(void)
 {
     try_making();
@@ -324,5 +387,8 @@ int main(void)
     try_changes();
     try_redraw();
     try_redraw_of_changes();
+    try_picture();
+    try_null();
+    try_moving();
     return ended();
 }

@@ -12,17 +12,17 @@ static const uint8_t KEYMAP[] = "keycode 30 = a\n", LINE[] = "a\r\n\033[6n";
 
 static void *make(void *unused)
 {
-    static const struct vt_text none[1];
     struct vt_fault fault;
     (void)unused;
     WANT(vt_screen_new(&screen, 3, 9) == VT_OK);
-    WANT(vt_keys_new(&keys, KEYMAP, sizeof KEYMAP - 1, none, 0, &fault) == VT_OK);
+    WANT(vt_keys_new(&keys, KEYMAP, sizeof KEYMAP - 1, NULL, 0, &fault) == VT_OK);
     return NULL;
 }
 
 static void *use(void *unused)
 {
-    static const struct vt_modes modes = { .repeat = 1 };
+    static const struct vt_modes modes = VT_MODES_START;
+    struct vt_key_state state = VT_KEY_STATE_START;
     struct vt_screen own = { 0 };
     (void)unused;
     bool is_fine = vt_screen_new(&own, 4, 4) == VT_OK;
@@ -33,8 +33,8 @@ static void *use(void *unused)
         is_fine = is_fine && vt_screen_write(&own, LINE, sizeof LINE - 1) == VT_OK;
         pthread_mutex_lock(&lock);
         WANT(is_fine);
-        WANT(vt_screen_feed(&screen, LINE, sizeof LINE - 1, outs, 4, &fed) == VT_OK && fed.said == 1);
-        WANT(vt_keys_scan(&keys, 30, &modes, &key) == VT_OK && key.length == 1 && key.bytes[0] == 'a');
+        WANT(vt_screen_feed(&screen, LINE, sizeof LINE - 1, outs, 4, &fed) == VT_OK && fed.outs == 1);
+        WANT(vt_keys_scan(&keys, 30, &modes, &state, &key) == VT_OK && key.length == 1 && key.bytes[0] == 'a');
         pthread_mutex_unlock(&lock);
     }
     vt_screen_free(&own);

@@ -1,4 +1,4 @@
-/* What the drawer and the picture share: characters in UTF-8, and colours by their numbers. */
+/* Cells for a terminal: characters in UTF-8, and colours by their numbers. */
 #ifndef CELLS_H
 #define CELLS_H
 

@@ -16,7 +16,7 @@ static bool is_same(struct vt_colour a, struct vt_colour b)
 }
 
 /* Reads the colours; whether one changed. */
-static bool read_colours(struct vt_screen *screen)
+static bool read_colours(const struct vt_screen *screen)
 {
     struct vt_colour old[COLOURS];
     bool is_changed = false;
@@ -45,7 +45,7 @@ static void print_pen(uint8_t attr)
     putchar('m');
 }
 
-static void draw_row(struct vt_screen *screen, const struct vt_state *state, int y)
+static void draw_row(const struct vt_screen *screen, const struct vt_state *state, int y)
 {
     static struct vt_cell cells[MOST_COLS];
     char text[5];
@@ -63,7 +63,7 @@ static void draw_row(struct vt_screen *screen, const struct vt_state *state, int
     }
 }
 
-void begin_drawing(struct vt_screen *screen)
+void begin_drawing(const struct vt_screen *screen)
 {
     static bool is_started;
     if (!is_started)

@@ -91,7 +91,8 @@ int main(int count, char **words)
 {
     if (count < 3 || strlen(words[1]) != 1 || words[1][0] < '0' || words[1][0] > '4')
         fail(1, "usage: keys MODE KEYMAP [NAME=FILE ..], with a mode from 0 to 4", NULL);
-    uint32_t mode = (uint32_t)(words[1][0] - '0');
+    struct vt_key_state state = VT_KEY_STATE_START;
+    state.mode = (uint8_t)(words[1][0] - '0');
     struct bytes text = file_bytes(words[2]);
     struct vt_text *texts = calloc((size_t)count, sizeof *texts);
     if (!texts)
@@ -117,11 +118,10 @@ int main(int count, char **words)
         break;
     default: fail(4, "no memory", NULL);
     }
-    vt_keys_set_mode(&keys, mode);
-    const struct vt_modes modes = { .repeat = 1 };
+    const struct vt_modes modes = VT_MODES_START;
     struct vt_key key;
     for (int scan; (scan = next_scan()) >= 0;)
-        if (vt_keys_scan(&keys, (uint8_t)scan, &modes, &key) == VT_OK)
+        if (vt_keys_scan(&keys, (uint8_t)scan, &modes, &state, &key) == VT_OK)
             print(scan, &key);
     vt_keys_free(&keys);
     free(text.at);

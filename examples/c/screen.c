@@ -35,7 +35,7 @@ static void draw(struct vt_screen *screen, const uint8_t *bytes, size_t length)
             return;
 }
 
-static int print_rows(struct vt_screen *screen, uint32_t rows)
+static int print_rows(const struct vt_screen *screen, uint32_t rows)
 {
     uint8_t text[ROW];
     size_t length;

@@ -98,7 +98,7 @@ static void write_input(void)
 static const char *const keys[][2] = {
     { "\033OP", "\033[[A" },   { "\033OQ", "\033[[B" }, { "\033OR", "\033[[C" }, { "\033OS", "\033[[D" },
     { "\033[15~", "\033[[E" }, { "\033OH", "\033[1~" }, { "\033[H", "\033[1~" }, { "\033OF", "\033[4~" },
-    { "\033[F", "\033[4~" },
+    { "\033[F", "\033[4~" },  { "\033[Z", "\033\t" },
 };
 
 /* Hands on what was typed. A key's bytes come in one piece, so none is looked for across pieces. */
@@ -116,7 +116,7 @@ static void type(const char *bytes, size_t length)
         if (!is_console && i < sizeof keys / sizeof *keys) {
             send(keys[i][1], strlen(keys[i][1]));
             taken = strlen(keys[i][0]);
-        } else if (state.cursor_keys && length - at >= 3 && memcmp(bytes + at, "\033[", 2) == 0 &&
+        } else if (state.modes.cursor_keys && length - at >= 3 && memcmp(bytes + at, "\033[", 2) == 0 &&
                    bytes[at + 2] >= 'A' && bytes[at + 2] <= 'D') {
             send((char[]){ '\033', 'O', bytes[at + 2] }, 3);
             taken = 3;
@@ -135,7 +135,7 @@ static void feed(const uint8_t *bytes, size_t length)
     for (size_t at = 0; at < length; at += fed.taken) {
         if (vt_screen_feed(&screen, bytes + at, length - at, outs, OUTS, &fed) != VT_OK)
             return;
-        for (size_t i = 0; i < fed.said; i++)
+        for (size_t i = 0; i < fed.outs; i++)
             if (outs[i].kind == VT_REPORT)
                 send(outs[i].text, outs[i].length);
             else if (outs[i].kind == VT_BELL)
@@ -345,8 +345,8 @@ int main(int count, char **words)
     take_terminal();
     int status = serve();
     restore();
-    if (picture)
-        write_picture(picture, &screen);
+    if (picture && !write_picture(picture, &screen))
+        fail(4, "no memory for the picture");
     vt_screen_free(&screen);
     close_file(picture, "the picture can't be written");
     close_file(record, "the recording can't be written");

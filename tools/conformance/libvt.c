@@ -13,7 +13,7 @@ static void write_piece(const char *bytes, size_t length)
     for (size_t at = 0; at < length; at += fed.taken) {
         if (vt_screen_feed(&screen, (const uint8_t *)bytes + at, length - at, outs, OUTS, &fed) != VT_OK)
             exit(1);
-        for (size_t n = 0; n < fed.said; n++)
+        for (size_t n = 0; n < fed.outs; n++)
             if (outs[n].kind == VT_REPORT)
                 keep_report((const char *)outs[n].text, outs[n].length);
             else if (outs[n].kind == VT_BELL)

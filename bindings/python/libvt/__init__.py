@@ -11,18 +11,19 @@ describes. The pytest plugin is `pytest_libvt`. `python3 -m libvt.expect` runs t
 records a program, and `python3 -m libvt.animation` draws a recording as a moving picture.
 """
 from .calls import (
-    COLOURS, ESCPREFIX, HALF, MEDIUMRAW, METABIT, OFF, RAW, UNICODE, XLATE, Attention, Bell, Cell, Closed, Cursor,
-    Error, Event, Keyboard, KeymapFault, KeyState, LibraryError, Lights, Modes, NoMemory, NotDrawable, OutOfRange,
-    Report, Screen, Spawn, SwitchLast, SwitchNext, SwitchPrevious, SwitchTo, Typed,
+    COLOURS, ESCPREFIX, HALF, LIGHTS_FOLLOW, MEDIUMRAW, METABIT, OFF, RAW, UNICODE, XLATE, Attention, Bell, Cell,
+    Closed, Cursor, Error, Event, Keyboard, KeymapFault, KeyState, LibraryError, Lights, Modes, NoMemory, NotDrawable,
+    OutOfRange, Report, Screen, Settings, Spawn, SwitchLast, SwitchNext, SwitchPrevious, SwitchTo, Typed,
 )  # fmt: skip
 from .environment import settings_of
 from .shown import Mask, Place, Shown
 from .terminal import Failed, Terminal
 
 __all__ = [
-    "COLOURS", "ESCPREFIX", "HALF", "MEDIUMRAW", "METABIT", "OFF", "RAW", "UNICODE", "XLATE", "Attention", "Bell",
-    "Cell", "Closed", "Cursor", "Error", "Event", "Failed", "Keyboard", "KeymapFault", "KeyState", "LibraryError",
-    "Lights", "Mask", "Modes", "NoMemory", "NotDrawable", "OutOfRange", "Place", "Report", "Screen", "Shown", "Spawn",
-    "SwitchLast", "SwitchNext", "SwitchPrevious", "SwitchTo", "Terminal", "Typed", "settings_of",
+    "COLOURS", "ESCPREFIX", "HALF", "LIGHTS_FOLLOW", "MEDIUMRAW", "METABIT", "OFF", "RAW", "UNICODE", "XLATE",
+    "Attention", "Bell", "Cell", "Closed", "Cursor", "Error", "Event", "Failed", "Keyboard", "KeymapFault", "KeyState",
+    "LibraryError", "Lights", "Mask", "Modes", "NoMemory", "NotDrawable", "OutOfRange", "Place", "Report", "Screen",
+    "Settings", "Shown", "Spawn", "SwitchLast", "SwitchNext", "SwitchPrevious", "SwitchTo", "Terminal", "Typed",
+    "settings_of",
 ]  # fmt: skip
 __version__ = "1.0.0"

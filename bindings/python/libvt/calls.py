@@ -27,8 +27,10 @@ OUTS = 64
 PIECE = 4096
 ROW = 255
 COLOURS = 16
+PAIRS = 256
 KEYMODES = RAW, XLATE, MEDIUMRAW, UNICODE, OFF = range(5)
 METABIT, ESCPREFIX = 3, 4
+LIGHTS_FOLLOW = 255
 HALF = 0x110000
 # The colours of an attribute byte, in the order that the VGA has.
 NAMES = ("black", "blue", "green", "cyan", "red", "magenta", "yellow", "white")
@@ -174,17 +176,28 @@ class Modes(NamedTuple):
     newline: bool = False
 
 
-class KeyState(NamedTuple):
-    """The key state of a console. Flags and lights are sums of Scroll Lock 1, Num Lock 2, Caps Lock 4; modifiers are
-    sums of the weights of keymaps(5)."""
+class Settings(NamedTuple):
+    """The other modes of a screen: DECSCNM, DECOM, DECAWM, IRM, DECCRM. These are those of a new screen."""
 
-    mode: int
-    meta: int
-    flags: int
-    defaults: int
-    lights: int
-    locks: int
-    sticky: int
+    reverse: bool = False
+    origin: bool = False
+    autowrap: bool = True
+    insert: bool = False
+    display: bool = False
+
+
+@dataclass
+class KeyState:
+    """The key state of a console: keep one for each. Flags and lights are sums of Scroll Lock 1, Num Lock 2, Caps
+    Lock 4; the lights show the flags while they are LIGHTS_FOLLOW. Modifiers are sums of the weights of keymaps(5)."""
+
+    mode: int = UNICODE
+    meta: int = ESCPREFIX
+    flags: int = 0
+    defaults: int = 0
+    lights: int = LIGHTS_FOLLOW
+    locks: int = 0
+    sticky: int = 0
 
 
 class _Handle(ctypes.Structure):
@@ -193,30 +206,40 @@ class _Handle(ctypes.Structure):
 
 class _Out(ctypes.Structure):
     _fields_ = [
-        ("kind", ctypes.c_uint8), ("number", ctypes.c_uint8), ("length", ctypes.c_uint8),
-        ("text", ctypes.c_uint8 * 16)]
+        ("kind", ctypes.c_uint8), ("length", ctypes.c_uint8), ("number", ctypes.c_uint16),
+        ("text", ctypes.c_uint8 * 16), ("spare", ctypes.c_uint32 * 3)]
 
 
 class _Fed(ctypes.Structure):
-    _fields_ = [("taken", ctypes.c_size_t), ("said", ctypes.c_size_t)]
+    _fields_ = [("taken", ctypes.c_size_t), ("outs", ctypes.c_size_t), ("spare", ctypes.c_size_t * 2)]
 
 
 class _Cell(ctypes.Structure):
-    _fields_ = [("code", ctypes.c_uint32), ("attr", ctypes.c_uint8)]
+    _fields_ = [("code", ctypes.c_uint32), ("attr", ctypes.c_uint8), ("spare", ctypes.c_uint8 * 3)]
+
+
+CELL, ATTRIBUTE = ctypes.sizeof(_Cell), _Cell.attr.offset
+
+
+class _Modes(ctypes.Structure):
+    _fields_ = [
+        *((name, ctypes.c_uint8) for name in ("cursor_keys", "keypad", "repeat", "newline_mode")),
+        ("spare", ctypes.c_uint8 * 4)]
 
 
 class _State(ctypes.Structure):
     _fields_ = [
-        (name, ctypes.c_uint8)
-        for name in ("rows", "cols", "y", "x", "visible", "reverse", "cursor_keys", "keypad", "newline", "repeat")]
+        *((name, ctypes.c_uint16) for name in ("rows", "cols", "y", "x")),
+        *((name, ctypes.c_uint8) for name in ("visible", "reverse", "origin", "autowrap", "insert", "controls")),
+        ("modes", _Modes), ("spare", ctypes.c_uint8 * 10)]
 
 
 class _Colour(ctypes.Structure):
-    _fields_ = [("red", ctypes.c_uint8), ("green", ctypes.c_uint8), ("blue", ctypes.c_uint8)]
+    _fields_ = [("red", ctypes.c_uint8), ("green", ctypes.c_uint8), ("blue", ctypes.c_uint8), ("spare", ctypes.c_uint8)]
 
 
 class _Fault(ctypes.Structure):
-    _fields_ = [("line", ctypes.c_uint32), ("column", ctypes.c_uint32), ("kind", ctypes.c_uint16)]
+    _fields_ = [(name, ctypes.c_uint32) for name in ("line", "column", "kind", "spare")]
 
 
 class _Text(ctypes.Structure):
@@ -227,17 +250,22 @@ class _Text(ctypes.Structure):
 
 class _KeyState(ctypes.Structure):
     _fields_ = [
-        (name, ctypes.c_uint8) for name in ("mode", "meta", "flags", "defaults", "lights", "locks", "sticky")]
-
-
-class _Modes(ctypes.Structure):
-    _fields_ = [(name, ctypes.c_uint8) for name in ("cursor_keys", "keypad", "repeat", "newline")]
+        *((name, ctypes.c_uint8) for name in ("mode", "meta", "flags", "defaults", "lights", "locks", "sticky")),
+        ("spare", ctypes.c_uint8 * 9)]
 
 
 class _Key(ctypes.Structure):
     _fields_ = [
-        ("kind", ctypes.c_uint8), ("number", ctypes.c_uint8), ("length", ctypes.c_uint16),
+        ("kind", ctypes.c_uint8), ("spare", ctypes.c_uint8), ("length", ctypes.c_uint16), ("number", ctypes.c_uint32),
         ("bytes", ctypes.c_uint8 * 512)]
+
+
+class _Action(ctypes.Structure):
+    _fields_ = [("kind", ctypes.c_uint16), ("value", ctypes.c_uint16)]
+
+
+class _Pair(ctypes.Structure):
+    _fields_ = [(name, ctypes.c_uint32) for name in ("accent", "base", "result")]
 
 
 _to = ctypes.POINTER
@@ -255,21 +283,22 @@ _CALLS = {
     "vt_screen_mark": (),
     "vt_screen_changed": (_room, _size),
     "vt_screen_resize": (_number, _number),
-    "vt_screen_colour": (_number, _to(_Colour)),
     "vt_screen_palette": (_to(_Colour), _size),
     "vt_screen_set_colour": (_number, _byte, _byte, _byte),
     "vt_screen_set_user": (_to(ctypes.c_uint16),),
     "vt_screen_redraw": (_room, _size, _to(_size)),
     "vt_screen_redraw_changes": (_room, _size, _to(_size)),
+    "vt_screen_picture": (_room, _size, _to(_size)),
     "vt_keys_new": (_bytes, _size, _to(_Text), _size, _to(_Fault)),
-    "vt_keys_scan": (_byte, _to(_Modes), _to(_Key)),
+    "vt_keys_scan": (_byte, _to(_Modes), _to(_KeyState), _to(_Key)),
+    "vt_keys_key": (_number, _byte, _to(_Modes), _to(_KeyState), _to(_Key)),
     "vt_keys_release": (),
-    "vt_keys_state": (_to(_KeyState),),
-    "vt_keys_set_mode": (_number,),
-    "vt_keys_set_meta": (_number,),
-    "vt_keys_set_flags": (_number, _number),
-    "vt_keys_set_lights": (_number,),
-    "vt_keys_set_locks": (_number, _number),
+    "vt_keys_entry": (_number, _number, _to(_Action)),
+    "vt_keys_set_entry": (_number, _number, _to(_Action)),
+    "vt_keys_keycode": (_number, _to(_number)),
+    "vt_keys_set_keycode": (_number, _number),
+    "vt_keys_pairs": (_to(_Pair), _size, _to(_size)),
+    "vt_keys_set_pairs": (_to(_Pair), _size),
     "vt_keys_string": (_number, _room, _size, _to(_size)),
     "vt_keys_set_string": (_number, _bytes, _size),
 }
@@ -384,7 +413,7 @@ class Screen(_Object):
                 piece = bytes(view[at:at + PIECE])
                 while True:
                     self._call("feed", piece, len(piece), self._outs, OUTS, self._fed)
-                    events += map(_event, self._outs[:self._fed.said])
+                    events += map(_event, self._outs[:self._fed.outs])
                     if self._fed.taken == len(piece):
                         break
                     piece = piece[self._fed.taken:]
@@ -415,8 +444,15 @@ class Screen(_Object):
     @property
     def modes(self) -> Modes:
         """The modes that keys depend on, for Keyboard.scan."""
+        modes = self._state().modes
+        return Modes(*(bool(mode) for mode in (modes.cursor_keys, modes.keypad, modes.repeat, modes.newline_mode)))
+
+    @property
+    def settings(self) -> Settings:
+        """The modes that keys don't depend on."""
         state = self._state()
-        return Modes(*(bool(mode) for mode in (state.cursor_keys, state.keypad, state.repeat, state.newline)))
+        modes = (state.reverse, state.origin, state.autowrap, state.insert, state.controls)
+        return Settings(*(bool(mode) for mode in modes))
 
     @property
     def reverse(self) -> bool:
@@ -444,7 +480,9 @@ class Screen(_Object):
         cells, what = (_Cell * ROW)(), f"row {row}"
         with self._lock:
             self._call("row", _unsigned(row, what), cells, ROW, what=what)
-            return [_cell(cell) for cell in cells[:self.size[1]]]
+            given, step = bytes(cells)[:self.size[1] * CELL], CELL // 4
+        codes, attributes = memoryview(given).cast("I")[::step], given[ATTRIBUTE::CELL]
+        return [Cell("" if code >= HALF else chr(code), code, byte) for code, byte in zip(codes, attributes)]
 
     def mark(self) -> None:
         """Remembers the cells as they are, for changed_rows."""
@@ -471,9 +509,9 @@ class Screen(_Object):
 
     def colour(self, number: int) -> tuple[int, int, int]:
         """Red, green and blue of a colour, 0 to 15 in the order of SGR."""
-        colour, what = _Colour(), f"colour {number}"
-        self._call("colour", _unsigned(number, what), colour, what=what)
-        return _parts(colour)
+        if not 0 <= number < COLOURS:
+            raise OutOfRange(f"colour {number}")
+        return self.palette[number]
 
     def set_colour(self, number: int, red: int, green: int, blue: int) -> None:
         """Sets red, green and blue of a colour, 0 to 15 in the order of SGR."""
@@ -497,10 +535,14 @@ class Screen(_Object):
         """The same for a terminal that shows the cells that mark remembered: only rows that differ are in the text."""
         return self._text("redraw_changes", room=4096)
 
+    def picture(self):
+        """The screen as a picture in SVG."""
+        return self._text("picture", room=16384).decode("utf-8", "surrogatepass")
+
 
 class Keyboard(_Object):
-    """A keymap (keymaps(5)) and a keyboard that types by it. `keymap` and the texts that it may include, by name, are
-    bytes or str."""
+    """A keymap (keymaps(5)) and a keyboard that types by it into the console whose key state is `state`. `keymap` and
+    the texts that it may include, by name, are bytes or str."""
 
     _kind = "keys"
 
@@ -516,15 +558,28 @@ class Keyboard(_Object):
         if self._call("new", text, len(text), texts, len(pairs), fault, may=(_FAULT,)) == _FAULT:
             raise KeymapFault(fault.kind, fault.line, fault.column)
         self._key = _Key()
-        self.set_mode(mode)
+        self.state = KeyState(mode=mode)
 
     def scan(self, byte: int, modes: Modes = Modes()) -> Event | None:
         """Types one scan byte. Returns what it sends or asks for: Typed, SwitchTo, SwitchLast, SwitchNext,
         SwitchPrevious, Spawn, Attention; or None."""
         if not 0 <= byte < 256:
             raise OutOfRange(f"scan byte {byte}")
+        return self._typed("scan", byte, modes=modes)
+
+    def key(self, keycode: int, is_down: bool = True, modes: Modes = Modes()) -> Event | None:
+        """Types a key by its keycode, 1 to 255, as evdev has it. Returns as scan does."""
+        return self._typed("key", _unsigned(keycode, f"keycode {keycode}"), bool(is_down), modes=modes)
+
+    def _typed(self, call: str, *words: Any, modes: Modes) -> Event | None:
+        numbers = [getattr(self.state, name) for name in KeyState.__dataclass_fields__]
+        if not all(0 <= number < 256 for number in numbers):
+            raise OutOfRange(f"{self.state}")
+        own = _KeyState(*numbers)
         with self._lock:
-            self._call("scan", byte, _Modes(*map(bool, modes)), self._key)
+            self._call(call, *words, _Modes(*map(bool, modes)), own, self._key, what=f"{words}, {self.state}")
+            for name in KeyState.__dataclass_fields__:
+                setattr(self.state, name, getattr(own, name))
             return _key_event(self._key)
 
     def type(self, scans: Iterable[int], modes: Modes = Modes()) -> list[Event]:
@@ -535,36 +590,41 @@ class Keyboard(_Object):
         """Releases the keys as if the keyboard were unplugged: none of them sends anything."""
         self._call("release")
 
-    @property
-    def state(self) -> KeyState:
-        """The key state."""
-        state = _KeyState()
-        self._call("state", state)
-        return KeyState(*(getattr(state, name) for name in KeyState._fields))
+    def entry(self, table: int, keycode: int) -> tuple[int, int]:
+        """The action of a keycode in a table, as its kind and its value (docs/KEYS.md, "Actions")."""
+        action, what = _Action(), f"table {table}, keycode {keycode}"
+        self._call("entry", _unsigned(table, what), _unsigned(keycode, what), action, what=what)
+        return action.kind, action.value
 
-    def set_mode(self, mode: int) -> None:
-        """Sets the keyboard mode: RAW, XLATE, MEDIUMRAW, UNICODE or OFF."""
-        what = f"mode {mode}: a mode is 0 to 4"
-        self._call("set_mode", _unsigned(mode, what), what=what)
+    def set_entry(self, table: int, keycode: int, kind: int, value: int) -> None:
+        """Sets the action of a keycode in a table."""
+        what = f"table {table}, keycode {keycode}, kind {kind}, value {value}"
+        if not 0 <= kind < 1 << 16 or not 0 <= value < 1 << 16:
+            raise OutOfRange(what)
+        self._call("set_entry", _unsigned(table, what), _unsigned(keycode, what), _Action(kind, value), what=what)
 
-    def set_meta(self, meta: int) -> None:
-        """Sets what Meta does: METABIT or ESCPREFIX."""
-        what = f"meta {meta}: it is 3 or 4"
-        self._call("set_meta", _unsigned(meta, what), what=what)
+    def keycode(self, scan: int) -> int:
+        """The keycode of a scan number, or 0: 1 to 127, and 129 to 255 for 1 to 127 after E0."""
+        keycode, what = ctypes.c_uint32(), f"scan number {scan}"
+        self._call("keycode", _unsigned(scan, what), keycode, what=what)
+        return keycode.value
 
-    def set_flags(self, flags: int, defaults: int = 0) -> None:
-        """Sets the flags, and those that a reset gives."""
-        what = f"flags {flags} and {defaults}: each is 0 to 7"
-        self._call("set_flags", _unsigned(flags, what), _unsigned(defaults, what), what=what)
+    def set_keycode(self, scan: int, keycode: int) -> None:
+        """Sets the keycode of a scan number, 0 to 255; 0 is none."""
+        what = f"scan number {scan}, keycode {keycode}"
+        self._call("set_keycode", _unsigned(scan, what), _unsigned(keycode, what), what=what)
 
-    def set_lights(self, lights: int | None) -> None:
-        """Sets the lights; None makes them show the flags again."""
-        self._call("set_lights", 8 if lights is None else _unsigned(lights, f"lights {lights}"))
+    def pairs(self) -> list[tuple[int, int, int]]:
+        """The pairs of compose keys, each an accent, a letter and the character that they make."""
+        pairs, count = (_Pair * PAIRS)(), ctypes.c_size_t()
+        self._call("pairs", pairs, PAIRS, count)
+        return [(pair.accent, pair.base, pair.result) for pair in pairs[:count.value]]
 
-    def set_locks(self, locks: int, sticky: int = 0) -> None:
-        """Sets the locked modifiers, and those for the next key."""
-        what = f"modifiers {locks} and {sticky}: each is 0 to 255"
-        self._call("set_locks", _unsigned(locks, what), _unsigned(sticky, what), what=what)
+    def set_pairs(self, pairs: Iterable[tuple[int, int, int]]) -> None:
+        """Sets the pairs: at most 256, of numbers up to 65535."""
+        pairs, what = list(pairs), "at most 256 pairs of numbers from 0 to 65535"
+        own = (_Pair * max(1, len(pairs)))(*(_Pair(*(_unsigned(number, what) for number in pair)) for pair in pairs))
+        self._call("set_pairs", own, len(pairs), what=what)
 
     def string(self, number: int) -> bytes:
         """The string of a function key, 0 to 255."""

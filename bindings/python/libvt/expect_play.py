@@ -3,7 +3,6 @@ from __future__ import annotations
 
 import pathlib
 import tempfile
-from typing import Callable
 
 from .calls import Bell, NotDrawable, Report, Screen
 from .environment import settings_of
@@ -14,15 +13,9 @@ from .screen_files import saved, write_text
 from .shown import Shown
 from .terminal import Failed, Terminal
 
-# The modes that no call of the library returns: a text, and whether the mode is on by a screen of 4 by 4 cells after
-# it. Each text begins with ESC, which ends an unfinished sequence.
-PROBES: dict[str, tuple[bytes, Callable[[Screen], bool]]] = {
-    "insert": (b"\x1b[2J\x1b[Hx\x1b[Hy", lambda screen: screen.row(0)[1] != " "),
-    "autowrap": (b"\x1b[2J\x1b[Habcde", lambda screen: screen.row(1)[0] != " "),
-    "origin": (b"\x1b[2;3r", lambda screen: screen.cursor.row == 1),
-    "display": (b"\x1b[H\x01", lambda screen: screen.cursor.column == 1),
-    "utf8": (b"\x1b[3l\x1b[H\xc3\xa9", lambda screen: screen.cursor.column == 1),
-}
+# Whether text is UTF-8, which no call of the library returns: é takes one column then, and two if it isn't. The text
+# begins with ESC, which ends an unfinished sequence, and hides control characters.
+UTF8 = b"\x1b[3l\x1b[H\xc3\xa9"
 
 
 class Playing:
@@ -110,14 +103,13 @@ class Playing:
 
     def _is_on(self, shown: Shown, name: str) -> bool:
         """Whether a mode is on."""
-        if name in ("visible", "reverse"):
-            return shown.cursor.visible if name == "visible" else shown.reverse
-        if name not in PROBES:
-            return bool(getattr(shown.modes, name))
-        text, is_on = PROBES[name]
-        with Screen(4, 4) as other:
-            other.write(self._modes() + text)
-            return is_on(other)
+        if name == "visible":
+            return shown.cursor.visible
+        if name == "utf8":
+            with Screen(4, 4) as other:
+                other.write(self._modes() + UTF8)
+                return other.cursor.column == 1
+        return bool(getattr(shown.modes if name in shown.modes._fields else shown.settings, name))
 
     def _modes(self) -> bytes:
         """A text that gives a screen of 4 by 4 cells the modes of this one. A small screen gets the same bytes, since

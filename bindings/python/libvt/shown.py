@@ -5,7 +5,7 @@ import difflib
 import re
 from typing import Callable, NamedTuple, Pattern, Sequence, Union
 
-from .calls import Cell, Cursor, Modes, NotDrawable, Screen
+from .calls import Cell, Cursor, Modes, NotDrawable, Screen, Settings
 from .pictures import picture_of
 
 PLAIN, MASKED = 7, "\u2591"
@@ -29,8 +29,8 @@ class Shown:
     """What a screen shows. It doesn't change. Rows and columns are counted from 0.
 
     `rows` are the rows as texts, without the blanks at their ends. `size` is (rows, columns). `bells` is how often the
-    bell rang. `modes` are the modes that keys depend on, and `reverse` is the mode DECSCNM. Colours are those that a
-    console shows, so the colours of reversed characters, and of a reversed screen, are exchanged already.
+    bell rang. `modes` are the modes that keys depend on, and `settings` the others. Colours are those that a console
+    shows, so the colours of reversed characters, and of a reversed screen, are exchanged already.
     """
 
     def __init__(self, screen: Screen, bells: int = 0) -> None:
@@ -38,9 +38,10 @@ class Shown:
         self.cursor: Cursor = screen.cursor
         self.modes: Modes = screen.modes
         self.bells = bells
-        self.reverse = screen.reverse
+        self.settings: Settings = screen.settings
         self._cells = [
-            [cell._replace(attribute=exchanged(cell.attribute)) for cell in row] if self.reverse else row
+            [cell._replace(attribute=exchanged(cell.attribute)) for cell in row]
+            if self.settings.reverse else row
             for row in map(screen.cells, range(self.size[0]))
         ]
         self._lines = ["".join(map(letter, cells)) for cells in self._cells]

@@ -186,28 +186,52 @@ class Keyboards(unittest.TestCase):
 
     def test_state(self):
         keyboard = libvt.Keyboard(KEYMAP)
-        self.assertEqual(keyboard.state, libvt.KeyState(libvt.UNICODE, libvt.ESCPREFIX, 0, 0, 0, 0, 0))
-        keyboard.set_mode(libvt.MEDIUMRAW)
+        self.assertEqual(keyboard.state, libvt.KeyState(libvt.UNICODE, libvt.ESCPREFIX, 0, 0, libvt.LIGHTS_FOLLOW, 0, 0))
+        keyboard.state.mode = libvt.MEDIUMRAW
         self.assertEqual(keyboard.scan(30), libvt.Typed(b"\x1e"))
-        keyboard.set_mode(libvt.UNICODE)
         keyboard.release()
-        keyboard.set_flags(4, 2)
-        self.assertEqual(keyboard.state.lights, 4)
+        keyboard.state = libvt.KeyState(flags=4, defaults=2, lights=1, meta=libvt.METABIT)
         self.assertEqual(keyboard.scan(30), libvt.Typed(b"A"))
-        keyboard.set_lights(1)
-        keyboard.set_meta(libvt.METABIT)
-        keyboard.set_locks(8, 16)
-        self.assertEqual(keyboard.state, libvt.KeyState(libvt.UNICODE, libvt.METABIT, 4, 2, 1, 8, 16))
-        keyboard.set_lights(None)
-        self.assertEqual(keyboard.state.lights, 4)
+        self.assertEqual(keyboard.state, libvt.KeyState(flags=4, defaults=2, lights=1, meta=libvt.METABIT))
+        keyboard.state = libvt.KeyState(sticky=1)
+        self.assertEqual([keyboard.scan(30), keyboard.scan(30)], [libvt.Typed(b"A"), libvt.Typed(b"a")])
+        for state in (
+            libvt.KeyState(mode=5), libvt.KeyState(meta=5), libvt.KeyState(flags=8), libvt.KeyState(defaults=8),
+            libvt.KeyState(lights=8), libvt.KeyState(locks=256), libvt.KeyState(sticky=-1),
+        ):
+            keyboard.state = state
+            with self.assertRaises(libvt.OutOfRange):
+                keyboard.scan(30)
+        for call in (lambda: keyboard.string(256), lambda: keyboard.set_string(0, bytes(256))):
+            with self.assertRaises(libvt.OutOfRange):
+                call()
+
+    def test_keycodes(self):
+        """Keycodes are those of linux/input-event-codes.h, kinds those of docs/KEYS.md: 1 is a character."""
+        keyboard = libvt.Keyboard(KEYMAP)
+        self.assertEqual([keyboard.key(30), keyboard.key(30, False)], [libvt.Typed(b"a"), None])
+        self.assertEqual(keyboard.keycode(44), 44)
+        keyboard.set_keycode(44, 30)
+        self.assertEqual((keyboard.keycode(44), keyboard.scan(44)), (30, libvt.Typed(b"a")))
+        self.assertEqual(keyboard.entry(0, 30), (1, 97))
+        keyboard.set_entry(0, 30, 1, 98)
+        self.assertEqual((keyboard.entry(0, 30), keyboard.scan(44)), ((1, 98), libvt.Typed(b"b")))
         for call in (
-            lambda: keyboard.set_mode(5), lambda: keyboard.set_meta(5), lambda: keyboard.set_flags(8),
-            lambda: keyboard.set_flags(0, 8), lambda: keyboard.set_locks(256), lambda: keyboard.set_locks(0, -1),
-            lambda: libvt.Keyboard(KEYMAP, mode=5), lambda: keyboard.string(256),
-            lambda: keyboard.set_string(0, bytes(256)),
+            lambda: keyboard.key(0), lambda: keyboard.key(256), lambda: keyboard.keycode(128),
+            lambda: keyboard.set_keycode(44, 256), lambda: keyboard.entry(256, 30), lambda: keyboard.entry(0, 0),
+            lambda: keyboard.set_entry(0, 30, 14, 0), lambda: keyboard.set_entry(0, 30, 1 << 16, 0),
         ):
             with self.assertRaises(libvt.OutOfRange):
                 call()
+
+    def test_pairs(self):
+        keyboard = libvt.Keyboard("compose '`' 'a' to U+00E0\n")
+        self.assertEqual(keyboard.pairs(), [(0x60, 0x61, 0xE0)])
+        keyboard.set_pairs([(1, 2, 3), (4, 5, 6)])
+        self.assertEqual(keyboard.pairs(), [(1, 2, 3), (4, 5, 6)])
+        for pairs in ([(1, 2, 65536)], [(1, 2, -1)], [(1, 2, 3)] * 257):
+            with self.assertRaises(libvt.OutOfRange):
+                keyboard.set_pairs(pairs)
 
     def test_strings(self):
         keyboard = libvt.Keyboard(KEYMAP)
@@ -219,7 +243,7 @@ class Keyboards(unittest.TestCase):
     def test_closing(self):
         with libvt.Keyboard(KEYMAP) as keyboard:
             keyboard.scan(30)
-        for call in (lambda: keyboard.scan(30), keyboard.release, lambda: keyboard.state, lambda: keyboard.string(0)):
+        for call in (lambda: keyboard.scan(30), keyboard.release, lambda: keyboard.string(0)):
             with self.assertRaises(libvt.Closed):
                 call()
 

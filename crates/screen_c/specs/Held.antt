@@ -14,6 +14,10 @@ pub record OwnedScreenView : Type 0 where
 abbrev pub with_machine : Reached Screen → OwnedScreenView → OwnedScreenView
 with_machine m o = record o { machine = m }
 
+-- this screen without a mark
+abbrev pub unmarked : Reached Screen → OwnedScreenView
+unmarked m = record { machine = m; mark = None }
+
 -- the start screen of this many rows and columns, without a mark
 abbrev pub new_screen : ℕ → ℕ → OwnedScreenView
 new_screen rows cols = record { machine = start rows cols; mark = None }

@@ -14,7 +14,7 @@ use vt_screen::{Emu, SideEffect, any_cut};
 
 /// Runs a text up to its end, or until `outs` is full, and writes its reports, bells and requests to `outs`.
 #[unsafe(no_mangle)]
-pub extern "C" fn vt_screen_feed(
+pub extern "C" fn vt_nonnull_screen_feed(
     handle: &mut ScreenHandle,
     bytes: &[u8],
     outs: &mut [VtOut],
@@ -40,7 +40,11 @@ pub extern "C" fn vt_screen_feed(
 
 /// Runs a whole text, and drops its reports, bells and requests.
 #[unsafe(no_mangle)]
-pub extern "C" fn vt_screen_write(handle: &mut ScreenHandle, bytes: &[u8], alloc: Global) -> u8
+pub extern "C" fn vt_nonnull_screen_write(
+    handle: &mut ScreenHandle,
+    bytes: &[u8],
+    alloc: Global,
+) -> u8
     ensures nothing { IfNone handle.old.value ((result ≡ NOTHING) × (handle.new.value ≡ None)) }
     ensures screen { IfSome handle.old.value (λ o. (result ≡ OK)
         × (handle.new.value ≡ Some (with_machine (after o.machine bytes.now) o))) }
@@ -68,7 +72,11 @@ fn feed(emu: &mut Emu, b: &[u8], places: &mut [VtOut]) -> VtFed
         at += emu.write_until(&b[at..], &mut effect);
         n += put_effect(&effect, places, n);
     }
-    VtFed { taken: at, said: n }
+    VtFed {
+        taken: at,
+        outs: n,
+        spare: [0; 2],
+    }
 }
 
 // Writes a side effect, if there is one, into a place. Returns the number of places that were written.

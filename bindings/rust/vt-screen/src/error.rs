@@ -18,7 +18,7 @@ pub enum Error {
 /// The first fault of a keymap: its kind, and its line and column, both from 1.
 #[derive(Clone, Copy, Debug, PartialEq, Eq)]
 pub struct Fault {
-    pub kind: u16,
+    pub kind: u32,
     pub line: u32,
     pub column: u32,
 }

@@ -5,13 +5,13 @@
 //!     assert_eq!(screen.row_text(0)?, "fghij");
 //!     # Ok::<(), vt_screen::Error>(())
 //!
-//! Rows and columns are counted from 0, from the top left. A value of these types may go to another thread; two threads
-//! share one behind a lock. No call panics.
+//! Rows and columns are counted from 0, from the top left. A value of these types may go to another thread, and threads
+//! may read one at once. No call panics.
 
 mod error;
 mod keyboard;
 mod screen;
 
 pub use error::{Error, Fault};
-pub use keyboard::{KeyEvent, KeyModes, KeyState, Keyboard, Mode};
+pub use keyboard::{Action, KeyEvent, KeyModes, KeyState, Keyboard, Mode, Pair};
 pub use screen::{Cell, Colour, Cursor, Event, Screen};

@@ -1,18 +1,17 @@
 use crate::error::{checked, text_of, Error};
 use crate::keyboard::KeyModes;
-use std::cell::UnsafeCell;
 use std::ptr;
 
 const OUTS: usize = 64;
 
 /// A screen of 1 to 255 rows and columns (console_codes(4)).
 pub struct Screen {
-    // (a call that only reads takes the screen out of the handle and puts it back)
-    handle: UnsafeCell<vt_sys::vt_screen>,
+    handle: vt_sys::vt_screen,
 }
 
-// The library proves that a handle may go to another thread. Two threads may not use it at once: it isn't Sync.
+// The library proves that a handle may go to another thread, and that calls which only read may use it at once.
 unsafe impl Send for Screen {}
+unsafe impl Sync for Screen {}
 
 /// What a text asks for besides drawing.
 #[derive(Clone, Debug, PartialEq, Eq)]
@@ -20,11 +19,11 @@ pub enum Event {
     /// Bytes for the program's input.
     Report(Vec<u8>),
     /// The console of this number has to come to the front.
-    SwitchTo(u8),
+    SwitchTo(u16),
     /// The console that was in front before has to come to the front.
     SwitchLast,
     /// The keyboard's lights: the sum of Scroll Lock 1, Num Lock 2 and Caps Lock 4.
-    Lights(u8),
+    Lights(u16),
     Bell,
 }
 
@@ -57,8 +56,8 @@ impl Cell {
 
 #[derive(Clone, Copy, Debug, PartialEq, Eq)]
 pub struct Cursor {
-    pub row: u8,
-    pub column: u8,
+    pub row: u16,
+    pub column: u16,
     pub visible: bool,
 }
 
@@ -74,7 +73,7 @@ impl Screen {
     pub fn new(rows: u32, cols: u32) -> Result<Screen, Error> {
         let mut handle = vt_sys::vt_screen { at: ptr::null_mut() };
         checked(unsafe { vt_sys::vt_screen_new(&mut handle, rows, cols) })?;
-        Ok(Screen { handle: UnsafeCell::new(handle) })
+        Ok(Screen { handle })
     }
 
     /// Draws the bytes, however they are cut into calls, and gives what they ask for to `hear`, in order.
@@ -83,9 +82,9 @@ impl Screen {
         while !text.is_empty() {
             let mut fed = vt_sys::vt_fed::default();
             checked(unsafe {
-                vt_sys::vt_screen_feed(self.handle.get(), text.as_ptr(), text.len(), outs.as_mut_ptr(), OUTS, &mut fed)
+                vt_sys::vt_screen_feed(&mut self.handle, text.as_ptr(), text.len(), outs.as_mut_ptr(), OUTS, &mut fed)
             })?;
-            outs[..fed.said].iter().filter_map(event).for_each(&mut hear);
+            outs[..fed.outs].iter().filter_map(event).for_each(&mut hear);
             text = &text[fed.taken..];
         }
         Ok(())
@@ -93,17 +92,17 @@ impl Screen {
 
     /// Draws the bytes, and drops what they ask for.
     pub fn write(&mut self, text: &[u8]) -> Result<(), Error> {
-        checked(unsafe { vt_sys::vt_screen_write(self.handle.get(), text.as_ptr(), text.len()) })
+        checked(unsafe { vt_sys::vt_screen_write(&mut self.handle, text.as_ptr(), text.len()) })
     }
 
     fn state(&self) -> vt_sys::vt_state {
         let mut state = vt_sys::vt_state::default();
-        unsafe { vt_sys::vt_screen_state(self.handle.get(), &mut state) };
+        unsafe { vt_sys::vt_screen_state(&self.handle, &mut state) };
         state
     }
 
     /// How many rows and columns the screen has.
-    pub fn size(&self) -> (u8, u8) {
+    pub fn size(&self) -> (u16, u16) {
         let state = self.state();
         (state.rows, state.cols)
     }
@@ -115,12 +114,12 @@ impl Screen {
 
     /// The modes that keys depend on.
     pub fn key_modes(&self) -> KeyModes {
-        let state = self.state();
+        let modes = self.state().modes;
         KeyModes {
-            cursor_keys: state.cursor_keys != 0,
-            keypad: state.keypad != 0,
-            repeat: state.repeat != 0,
-            newline: state.newline != 0,
+            cursor_keys: modes.cursor_keys != 0,
+            keypad: modes.keypad != 0,
+            repeat: modes.repeat != 0,
+            newline: modes.newline_mode != 0,
         }
     }
 
@@ -131,82 +130,82 @@ impl Screen {
 
     pub fn cell(&self, row: u32, col: u32) -> Result<Cell, Error> {
         let mut cell = vt_sys::vt_cell::default();
-        checked(unsafe { vt_sys::vt_screen_cell(self.handle.get(), row, col, &mut cell) })?;
+        checked(unsafe { vt_sys::vt_screen_cell(&self.handle, row, col, &mut cell) })?;
         Ok(Cell { code: cell.code, attribute: cell.attr })
     }
 
     /// The cells of a row, from its left.
     pub fn cells(&self, row: u32) -> Result<Vec<Cell>, Error> {
         let mut cells = vec![vt_sys::vt_cell::default(); usize::from(self.size().1)];
-        checked(unsafe { vt_sys::vt_screen_row(self.handle.get(), row, cells.as_mut_ptr(), cells.len()) })?;
+        checked(unsafe { vt_sys::vt_screen_row(&self.handle, row, cells.as_mut_ptr(), cells.len()) })?;
         Ok(cells.iter().map(|cell| Cell { code: cell.code, attribute: cell.attr }).collect())
     }
 
     /// The characters of a row.
     pub fn row_text(&self, row: u32) -> Result<String, Error> {
         let text = text_of(4 * 255, |at, room, length| unsafe {
-            vt_sys::vt_screen_row_text(self.handle.get(), row, at, room, length)
+            vt_sys::vt_screen_row_text(&self.handle, row, at, room, length)
         })?;
         Ok(String::from_utf8_lossy(&text).into_owned())
     }
 
     /// Remembers the cells as they are, for `changed_rows`.
     pub fn mark(&mut self) -> Result<(), Error> {
-        checked(unsafe { vt_sys::vt_screen_mark(self.handle.get()) })
+        checked(unsafe { vt_sys::vt_screen_mark(&mut self.handle) })
     }
 
     /// Whether each row differs from the cells that `mark` remembered; all of them do, if there are none.
     pub fn changed_rows(&self) -> Vec<bool> {
         let mut rows = vec![1; usize::from(self.size().0)];
-        unsafe { vt_sys::vt_screen_changed(self.handle.get(), rows.as_mut_ptr(), rows.len()) };
+        unsafe { vt_sys::vt_screen_changed(&self.handle, rows.as_mut_ptr(), rows.len()) };
         rows.into_iter().map(|row| row != 0).collect()
     }
 
     /// Gives the screen another size.
     pub fn resize(&mut self, rows: u32, cols: u32) -> Result<(), Error> {
-        checked(unsafe { vt_sys::vt_screen_resize(self.handle.get(), rows, cols) })
-    }
-
-    /// A colour, 0 to 15 in the order of SGR.
-    pub fn colour(&self, number: u32) -> Result<Colour, Error> {
-        let mut colour = vt_sys::vt_colour::default();
-        checked(unsafe { vt_sys::vt_screen_colour(self.handle.get(), number, &mut colour) })?;
-        Ok(parts(colour))
+        checked(unsafe { vt_sys::vt_screen_resize(&mut self.handle, rows, cols) })
     }
 
     /// The colours 0 to 15, in the order of SGR.
     pub fn palette(&self) -> [Colour; 16] {
         let mut colours = [vt_sys::vt_colour::default(); 16];
-        unsafe { vt_sys::vt_screen_palette(self.handle.get(), colours.as_mut_ptr(), colours.len()) };
+        unsafe { vt_sys::vt_screen_palette(&self.handle, colours.as_mut_ptr(), colours.len()) };
         colours.map(parts)
     }
 
     pub fn set_colour(&mut self, number: u32, colour: Colour) -> Result<(), Error> {
         let Colour { red, green, blue } = colour;
-        checked(unsafe { vt_sys::vt_screen_set_colour(self.handle.get(), number, red, green, blue) })
+        checked(unsafe { vt_sys::vt_screen_set_colour(&mut self.handle, number, red, green, blue) })
     }
 
     /// Sets the user's table of characters (ESC ( K).
     pub fn set_user(&mut self, words: &[u16; 256]) -> Result<(), Error> {
-        checked(unsafe { vt_sys::vt_screen_set_user(self.handle.get(), words.as_ptr()) })
+        checked(unsafe { vt_sys::vt_screen_set_user(&mut self.handle, words.as_ptr()) })
     }
 
     /// The text that draws this screen on a terminal of its size.
     pub fn redraw(&self) -> Result<Vec<u8>, Error> {
-        text_of(4096, |at, room, length| unsafe { vt_sys::vt_screen_redraw(self.handle.get(), at, room, length) })
+        text_of(4096, |at, room, length| unsafe { vt_sys::vt_screen_redraw(&self.handle, at, room, length) })
     }
 
     /// The same for a terminal that shows the cells that `mark` remembered: only rows that differ are in the text.
     pub fn redraw_changes(&self) -> Result<Vec<u8>, Error> {
         text_of(4096, |at, room, length| unsafe {
-            vt_sys::vt_screen_redraw_changes(self.handle.get(), at, room, length)
+            vt_sys::vt_screen_redraw_changes(&self.handle, at, room, length)
         })
+    }
+
+    /// The screen as a picture in SVG 1.1.
+    pub fn picture(&self) -> Result<String, Error> {
+        let text =
+            text_of(16384, |at, room, length| unsafe { vt_sys::vt_screen_picture(&self.handle, at, room, length) })?;
+        Ok(String::from_utf8_lossy(&text).into_owned())
     }
 }
 
 impl Drop for Screen {
     fn drop(&mut self) {
-        unsafe { vt_sys::vt_screen_free(self.handle.get()) }
+        unsafe { vt_sys::vt_screen_free(&mut self.handle) }
     }
 }
 

@@ -86,12 +86,10 @@ fn changes() {
 #[test]
 fn colours() {
     let mut s = screen(1, 2);
-    assert_eq!(s.colour(1), Ok(Colour { red: 170, green: 0, blue: 0 }));
+    assert_eq!(s.palette()[1], Colour { red: 170, green: 0, blue: 0 });
     let other = Colour { red: 1, green: 2, blue: 3 };
     assert_eq!(s.set_colour(1, other), Ok(()));
-    assert_eq!(s.colour(1), Ok(other));
     assert_eq!(s.palette()[..2], [Colour { red: 0, green: 0, blue: 0 }, other]);
-    assert_eq!(s.colour(16), Err(Error::Range));
     assert_eq!(s.set_colour(16, other), Err(Error::Range));
     s.set_user(&[0x3B1; 256]).expect("a table");
     s.write(b"\x1b%@\x1b(Ka").expect("a text is drawn");
@@ -117,4 +115,20 @@ fn another_thread() {
     let mut s = screen(2, 5);
     let s = thread::spawn(move || s.write(b"ab").map(|()| s)).join().expect("a thread").expect("a text is drawn");
     assert_eq!(s.row_text(0).as_deref(), Ok("ab   "));
+}
+
+#[test]
+fn readers_at_once() {
+    let mut s = screen(2, 5);
+    s.write(b"ab").expect("a text is drawn");
+    let wanted = (s.row_text(0), s.cells(0), s.redraw(), s.picture());
+    thread::scope(|scope| {
+        for _ in 0..8 {
+            scope.spawn(|| {
+                for _ in 0..100 {
+                    assert_eq!((s.row_text(0), s.cells(0), s.redraw(), s.picture()), wanted);
+                }
+            });
+        }
+    });
 }
