@@ -122,18 +122,15 @@ class Watch:
 
     def processes(self, anew: bool = False) -> list[str]:
         """The numbers of the members. With `anew` each process is looked at again."""
-        if anew:
-            self._known.clear()
-        found = []
+        known: dict[str, bool] = {}  # without the processes that have ended, whose numbers may be used again
         for process in filter(str.isdigit, os.listdir("/proc")):
-            is_member = self._known.get(process)
+            is_member = None if anew else self._known.get(process)
             if is_member is None:
                 is_member = self._is_member(process)
-                if is_member is not None:
-                    self._known[process] = is_member
-            if is_member:
-                found.append(process)
-        return found
+            if is_member is not None:
+                known[process] = is_member
+        self._known = known
+        return [process for process, is_member in known.items() if is_member]
 
     def look(self) -> Look | None:
         """How the threads of all members sleep; None if one of them runs, or if there is none. If two looks are equal,
