@@ -37,6 +37,8 @@ BUILD = "a build of all programs; check_build.py builds one of them"
 # The tools that check the commands and files of a page in a folder of its own.
 ELSEWHERE = {
     "docs/guide/test-a-terminal-program.md": "check_expect.py",
+    "docs/guide/from-pyte-and-pexpect.md": "check_expect.py",
+    "docs/guide/from-libvterm.md": "check_expect.py",
     "docs/guide/embed-a-crate.md": "check_snippets.py",
     "docs/guide/display-server.md": "check_watch.py",
     "docs/library/c.md": "check_c.py",
@@ -81,7 +83,9 @@ LEFT = {
     "docs/guide/test-a-terminal-program.md": {"PATH=": "check_expect.py sets such a path"},
     "docs/guide/tour.md": {"console 1  ====": DRAWING},
     "docs/guide/write-a-terminal.md": {"sequence          pyte": "measured figures of other engines"},
-    "docs/library/c.md": {"bench/c_library.py": "a measurement of many minutes"},
+    "docs/library/c.md": {
+        "bench/c_library.py": "a measurement of many minutes", "pip wheel": "check_python.py makes a wheel in a folder of its own",
+    },
     "examples/conformance/README.md": {"tools/make_conformance.py --more": "it writes 100,000 cases, for many minutes"},
     "examples/pictures/README.md": {
         "../../tools/record.py": "it records a program of Debian 12, with keys and times", "[Layout]": "lines of another program",

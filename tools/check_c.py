@@ -4,7 +4,7 @@
 usage: check_c.py [--library OUT | --gate] [--vt PROGRAM] [--only CHECK,..] [--add-interface] [--runs N]
 
 - `header`: vt.h is C99 to C2x and C++11 to C++20, also after <term.h>, and has each line of c/interface.txt; the library
-  has the calls of vt.h and no other symbol; vt.py has its layout.
+  has the calls of vt.h and no other symbol; the Python package has its layout.
 - `codes`: each code of each call, plainly, with sanitizers, and under valgrind without a leak.
 - `cuts`, `outs`, `workloads`: the recordings of examples/ in pieces of 1, 7, 64, 4,096 bytes and whole, with room for
   0, 1, 2, 64 and 5,000 outs; a text that asks for thousands of things in eight cuts; the ten workloads of
@@ -36,7 +36,8 @@ import tempfile
 
 sys.dont_write_bytecode = True
 
-from c_library import drawn, guide, interface, programs, terminal, typed  # noqa: E402: after the line that keeps tools/ clean
+import package  # noqa: E402: after the line that keeps tools/ clean
+from c_library import drawn, guide, interface, programs, terminal, typed  # noqa: E402
 from c_library.bench import (  # noqa: E402
     EXAMPLES, SANITIZERS, TESTS, TOP, VALGRIND, WARNINGS, Bench, Missing)
 from programs import find_for_check  # noqa: E402
@@ -57,10 +58,10 @@ def calls_of_header():
 
 
 def binding(bench):
-    """The module vt.py over this library."""
+    """The module with the calls of the Python package, over this library."""
     os.environ["VT_LIBRARY"] = str(bench.library / "lib/libvt.so.1")
-    sys.path.insert(0, str(TOP / "bindings/python"))
-    return importlib.import_module("vt")
+    sys.path.insert(0, str(package.FOLDER))
+    return importlib.import_module("libvt.calls")
 
 
 def check_header(bench):
@@ -112,16 +113,16 @@ def check_header_beside(bench):
 
 
 def compare_layout(bench, lines):
-    """The structs of vt.py have the sizes and the places of fields that C gives them."""
-    vt = binding(bench)
+    """The structs of the Python package have the sizes and the places of fields that C gives them."""
+    calls = binding(bench)
     names = {"vt_screen": "_Handle", "vt_keys": "_Handle"}
     for line in lines:
         name, value = line.split()
         struct, _, field = name.partition(".")
         python = names.get(struct) or "_" + "".join(part.title() for part in struct.split("_")[1:])
-        kind = getattr(vt, python)
+        kind = getattr(calls, python)
         is_so = getattr(kind, field).offset == int(value) if field else ctypes.sizeof(kind) == int(value)
-        bench.holds(is_so, f"{python} of vt.py has the layout of {name}: {value}")
+        bench.holds(is_so, f"{python} of the Python package has the layout of {name}: {value}")
 
 
 def check_codes(bench):
@@ -158,8 +159,8 @@ def check_threads(bench):
 
 def check_python(bench):
     library = str(bench.library / "lib/libvt.so.1")
-    words = [sys.executable, "-B", TOP / "bindings/python/test_vt.py"]
-    bench.ends_well(words, "the tests of vt.py", env={**os.environ, "VT_LIBRARY": library})
+    words = [sys.executable, "-B", package.FOLDER / "tests/test_calls.py"]
+    bench.ends_well(words, "the tests of the Python calls", env={**os.environ, "VT_LIBRARY": library})
 
 
 def check_rust(bench):

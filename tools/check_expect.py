@@ -3,13 +3,15 @@
 
 usage: check_expect.py [--vt PATH] [--picture PATH] [--seconds S] [--damaged N] [--only KIND]
 
-The ten files hold, and wrong.test prints wrong.tap. Each file that isn't of the form is refused with its line;
-record.py ends with its status for each way in which a program can fail. Some hundreds of damaged files end with a
-status and a message, and never with a traceback. A file with 1,000 assertions over a stream of 1 MiB takes at most S
-seconds (5) of processor time. The commands of the guide print what it shows, if less is installed, and the test files
-want what pyte shows, if that is. Prints a line a kind and last 'N passed, M failed'; ends with status 1 if one fails.
+The test files hold, wrong.test prints wrong.tap, and the rows at the end of each file are those of `vt screen`. Each
+file that isn't of the form is refused with its line; record.py ends with its status for each way in which a program can
+fail. Some hundreds of damaged files end with a status and a message, and never with a traceback. A file with 1,000
+assertions over a stream of 1 MiB takes at most S seconds (5) of processor time. The commands of the guides print what
+they show, if less is installed, and the test files want what pyte shows, if that is. The tools need the C library in
+out/c. Prints a line a kind and last 'N passed, M failed'; ends with status 1 if one fails.
 """
 import argparse
+import importlib
 import json
 import os
 import pathlib
@@ -22,11 +24,14 @@ import sys
 import tempfile
 
 import check_pages
+import package
 from programs import find_for_check
 
 ROOT = pathlib.Path(__file__).resolve().parent.parent
 TOOLS, TESTS = ROOT / "tools", ROOT / "examples/tests"
-GUIDE = ROOT / "docs/guide/test-a-terminal-program.md"
+GUIDES = [
+    ROOT / "docs/guide" / name
+    for name in ("test-a-terminal-program.md", "from-pyte-and-pexpect.md", "from-libvterm.md")]
 SECONDS = 60
 # pyte draws vttest's frame otherwise than vttest's own text describes it.
 DRAWN_OTHERWISE = ["vttest.test:13: ?screen"]
@@ -60,7 +65,6 @@ REFUSED_TESTS = [
     ("?attr 0,0 = red\n", 1, "wanted two colours"),
     ("?attr 0,0 = red pink\n", 1, "wanted two colours"),
     ("?attr 0,0 = red blue bold bold\n", 1, "at most once"),
-    ("?mode visible\n", 1, "answered by no call"),
     ("?mode loud\n", 1, "wanted one of insert"),
     ("?mode insert = 1\n", 1, "wanted on or off"),
     ("?bells = many\n", 1, "wanted a number"),
@@ -68,7 +72,6 @@ REFUSED_TESTS = [
     ("|a|\n", 1, "wanted SIZE, PUSH"),
     ("SIZE 1 2\n?screen\n|a|\n|b|\n", 4, "at most 1 rows"),
     ("?screen\n|a\n", 2, "wanted a row between two bars"),
-    ("?screen 3\n", 1, "wanted nothing behind ?screen"),
     ('?row 0 = "\\xff"\n', 1, "wanted a row in UTF-8"),
     (b'?row 0 = "\xff"\n', 1, "wanted UTF-8"),
 ]
@@ -113,8 +116,9 @@ RUNS = [
     ("", ["3", "20", "--", "sh", "-c", "kill -SEGV $$"], 3, "was ended by signal 11"),
     ("sleep 5\ntype a\n", ["3", "20", "--", "true"], 3, ":2: the program ended before this line"),
     ("wait never\n", ["3", "20", "--", "echo", "hi"], 4,
-        ":1: \"never\" didn't come before the program ended; the output ends with \"hi\\r\\n\""),
-    ("wait never\n", ["3", "20", "--limit", "0.5", "--", "sleep", "20"], 4, ":1: \"never\" didn't come within 0.5 s"),
+        ":1: wait: \"never\" wasn't shown before the program ended with status 0"),
+    ("wait never\n", ["3", "20", "--limit", "0.5", "--", "sleep", "20"], 4,
+        ":1: wait: \"never\" wasn't shown within 0.5 s"),
     ("", ["3", "20", "--limit", "0.5", "--", "sleep", "20"], 5, "didn't end within 0.5 s"),
     ("wait go\n", ["3", "20", "--leave", "--", "sh", "-c", "echo go; sleep 20"], 0, ""),
     ("", ["3", "20", "--out", "/nosuch/file", "--", "true"], 1, "/nosuch/file: No such file"),
@@ -141,28 +145,53 @@ def fault_of(ran, statuses, name):
     said = ran.stderr.decode("utf-8", "replace")
     if "Traceback" in said or ran.returncode not in statuses:
         return f"status {ran.returncode}: {said[-200:]}"
-    if ran.returncode > 1 and not re.search(rf"^{name}: .+\n\Z", said, re.M):
+    if ran.returncode > 1 and not re.search(rf"^{name}: .+\n", said, re.M):
         return f"status {ran.returncode} without a message: {said[-200:]!r}"
     return None
 
 
-def expect_words(given, *words):
+def expect_words(*words):
     """The words of a run of expect.py."""
-    return [TOOLS / "expect.py", *(["--vt", given.vt] if given.vt else []), *words]
+    return [TOOLS / "expect.py", *words]
 
 
-def held(given):
+def drawn_by_vt(given):
+    """The rows at the end of each test file are those that `vt screen` prints of the same bytes."""
+    vt = find_for_check("vt", given.vt)
+    for name in sorted(path.name for path in TESTS.glob("*.test")):
+        file = expect_files().read_test(str(TESTS / name))
+        steps = [part for part in file.parts if not hasattr(part, "kind")]
+        if any(step.word not in ("SIZE", "PUSH", "FILE") for step in steps):
+            continue
+        text = b"".join(step.value for step in steps if step.word != "SIZE")
+        words = [str(vt), "screen", *map(str, file.start)]
+        printed = subprocess.run(words, input=text, capture_output=True, timeout=SECONDS, check=False).stdout
+        libvt = importlib.import_module("libvt")
+        with libvt.Screen(*file.start) as screen:
+            screen.write(text)
+            shown = libvt.Shown(screen)
+        rows = "".join(f"|{shown.line(row)}|\n" for row in range(file.start[0]))
+        yield None if printed.decode() == rows else f"{name}: vt screen prints\n{printed.decode()}"
+
+
+def expect_files():
+    """The module that reads test files."""
+    sys.path.insert(0, str(package.FOLDER))
+    return importlib.import_module("libvt.expect_files")
+
+
+def held():
     """The files that hold, and the one that doesn't."""
     names = sorted(path.name for path in TESTS.glob("*.test"))
     good = [name for name in names if name != "wrong.test"]
     yield None if len(good) >= 10 else f"{len(good)} test files"
     for name in good:
-        ran = run(expect_words(given, name), TESTS)
+        ran = run(expect_words(name), TESTS)
         why = fault_of(ran, (0, 1), "expect.py")
         if not why and ran.returncode:
             why = ran.stdout.decode("utf-8", "replace")
         yield f"{name}: {why}" if why else None
-    ran = run(expect_words(given, "wrong.test"), TESTS)
+    ran = run(expect_words("wrong.test"), TESTS)
     why = fault_of(ran, (1,), "expect.py")
     if not why and ran.stdout != (TESTS / "wrong.tap").read_bytes():
         why = ran.stdout.decode("utf-8", "replace")
@@ -233,7 +262,7 @@ def casts():
             yield None if same else f"version {version}: {got and got.stdout!r}"
 
 
-def damaged(given, count):
+def damaged(count):
     """Damaged files of each kind: each run ends with a status of the tool's."""
     cast = '{"version": 2, "width": 20, "height": 3}\n[0.1, "o", "hi \\u001b[1m"]\n[0.2, "r", "30x4"]\n'
     seeds = {
@@ -242,7 +271,7 @@ def damaged(given, count):
         "cast": [cast.encode()],
     }
     words = {
-        "test": lambda path: expect_words(given, path),
+        "test": lambda path: expect_words(path),
         "keys": lambda path: [TOOLS / "record.py", "3", "20", "--limit", "0.2", "--keys", path, "--", "cat"],
         "cast": lambda path: [TOOLS / "record.py", "--from-cast", path],
     }
@@ -269,33 +298,43 @@ def works(*command):
 
 
 def guided(given):
-    """The guide's commands print what it shows, in a folder with the files that it shows."""
-    text = GUIDE.read_text(encoding="utf-8")
+    """The guides' commands print what the pages show."""
+    for page in GUIDES:
+        yield from guided_by(given, page)
+
+
+def links_of(given):
+    """The programs and tools that the guides name, and those that are left out since an engine isn't installed."""
+    targets = {"vt": find_for_check("vt", given.vt), "picture": find_for_check("picture", given.picture)}
+    targets.update({name: TOOLS / name for name in ("record.py", "expect.py", "animation.py")})
+    pythons = [it for it in (sys.executable, "/usr/bin/python3") if works(it, "-c", "import pyte")]
+    targets.update({"python3": it for it in pythons[:1]})
+    left_out = [] if pythons else ["less_pyte"]
+    left_out += [] if works("gcc", "-E", "-x", "c", "-include", "vterm.h", os.devnull) else ["less_libvterm"]
+    return targets, left_out
+
+
+def guided_by(given, page):
+    """The commands of a page print what it shows, in a folder with the files that it shows; `~/vt` is this clone."""
+    text = page.read_text(encoding="utf-8")
     files = re.findall(r"`([\w.]+)`[^\n]*:\n\n((?: {4}(?!\$).*\n|\n(?= {4}[^$]))+)", text)
+    targets, left_out = links_of(given)
     with tempfile.TemporaryDirectory() as folder:
-        at = pathlib.Path(folder)
+        home, links, at = (pathlib.Path(folder) / name for name in ("home", "bin", "try"))
+        for made in (home, links, at):
+            made.mkdir()
+        (home / "vt").symlink_to(ROOT)
         for name, block in files:
             (at / name).write_text(re.sub("(?m)^ {4}", "", block), encoding="utf-8")
-        targets = {
-            "vt": find_for_check("vt", given.vt),
-            "picture": find_for_check("picture", given.picture),
-            "record.py": TOOLS / "record.py",
-        }
-        pythons = [it for it in (sys.executable, "/usr/bin/python3") if works(it, "-c", "import pyte")]
-        targets.update({"python3": it for it in pythons[:1]})
-        # (the programs for engines that aren't installed here)
-        left_out = () if pythons else ("less_pyte",)
-        left_out += () if works("gcc", "-E", "-x", "c", "-include", "vterm.h", os.devnull) else ("less_libvterm",)
         for name, target in targets.items():
-            (at / name).symlink_to(pathlib.Path(target).resolve())
-        (at / "expect.py").write_text(f'#!/bin/sh\nexec {TOOLS}/expect.py --vt {at}/vt "$@"\n', encoding="utf-8")
-        (at / "expect.py").chmod(0o755)
-        path = f"{folder}:{os.environ['PATH']}"
+            (links / name).symlink_to(pathlib.Path(target).resolve())
+        environment = {**os.environ, "PATH": f"{links}:{os.environ['PATH']}", "HOME": str(home), "CI": ""}
+        environment["PYTHONDONTWRITEBYTECODE"] = "1"
         for command, lines in check_pages.examples(text):
-            if "examples/" in command and given.vt or any(name in command for name in left_out):
+            if any(name in command for name in left_out):
                 continue
             ran = subprocess.run(
-                ["bash", "-c", command], cwd=ROOT if "examples/" in command else at, env={**os.environ, "PATH": path},
+                ["bash", "-c", command], cwd=ROOT if "examples/" in command else at, env=environment,
                 capture_output=True, timeout=SECONDS, check=False)  # fmt: skip
             printed = (ran.stdout + ran.stderr).decode("utf-8", "replace").splitlines()
             yield None if check_pages.fits(lines, printed) else "\n".join([f"`{command}` prints", *printed[:20]])
@@ -318,7 +357,7 @@ def large(given):
         path.write_text("\n".join(lines), encoding="utf-8")
         path.with_name("stream").write_bytes(stream)
         before = resource.getrusage(resource.RUSAGE_CHILDREN)
-        ran = run(expect_words(given, path))
+        ran = run(expect_words(path))
         after = resource.getrusage(resource.RUSAGE_CHILDREN)
     used = after.ru_utime + after.ru_stime - before.ru_utime - before.ru_stime
     why = fault_of(ran, (0, 1), "expect.py")
@@ -337,16 +376,17 @@ def main():
     given = form.parse_args()
     keys = lambda path: ["3", "20", "--keys", path, "--", "true"]
     kinds = {
-        "test files": held(given),
+        "test files": held(),
+        "rows of vt screen": drawn_by_vt(given),
         "test files refused": refused(REFUSED_TESTS, "expect.py", lambda path: [path], 2),
         "key scripts refused": refused(REFUSED_KEYS, "record.py", keys, 1),
         "casts refused": refused(REFUSED_CASTS, "record.py", lambda path: ["--from-cast", path], 1),
         "programs recorded": recorded(),
         "casts": casts(),
-        "damaged files": damaged(given, given.damaged),
+        "damaged files": damaged(given.damaged),
         "1,000 assertions": large(given),
     }
-    kinds["the guide"] = guided(given) if shutil.which("less") else None
+    kinds["the guides"] = guided(given) if shutil.which("less") else None
     kinds["judged by pyte"] = judged()
     passed = failed = 0
     for kind, results in kinds.items():

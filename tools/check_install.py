@@ -134,19 +134,29 @@ def path_of(prefix, folder):
     return f"{prefix}/bin:{folder}"
 
 
+def check_terminals(check, do, has_library):
+    """The installed tools over the library."""
+    status, stream, err = do("vt-record", 2, 10, "--cast", "a.cast", "--", "sh", "-c", "echo hello")
+    if not has_library:
+        check.holds(status == 2 and "libvt.so.1" in err, f"vt-record without the library: {status}, {err}")
+        return
+    check.holds((status, stream) == (0, "hello\r\n"), f"vt-record: {status}, {stream!r}, {err}")
+    do.folder.joinpath("a.test").write_text(TEST, encoding="utf-8")
+    status, text, err = do("vt-expect", "a.test")
+    check.holds(status == 1 and "# 1 hold, 1 fail\n" in text, f"vt-expect: {status}, {text}{err}")
+    status, picture, err = do("vt-animation", "a.cast")
+    check.holds(status == 0 and "hello" in picture, f"vt-animation: {status}, {err}")
+
+
 def check_programs(check, do):
     """The installed programs and the tools that play on them."""
     check.holds(do("vt", "screen", 2, 5, given="abcdefghijk") == (0, "|fghij|\n|k    |\n", ""), "vt screen")
-    status, stream, err = do("vt-record", 2, 10, "--", "sh", "-c", "echo hello")
-    check.holds((status, stream) == (0, "hello\r\n"), f"vt-record: {status}, {stream!r}, {err}")
+    stream = "hello\r\n"
     status, picture, err = do("vt-picture", 2, 10, given=stream)
     check.holds(status == 0 and "hello" in picture and picture.startswith("<svg "), f"vt-picture: {status}, {err}")
     status, text, err = do("vt-redraw", 2, 10, given=stream)
     drawn = do("vt", "screen", 2, 10, given=text)[1]
     check.holds(status == 0 and drawn == f"|hello{' ' * 5}|\n|{' ' * 10}|\n", f"vt-redraw: {err}")
-    do.folder.joinpath("a.test").write_text(TEST, encoding="utf-8")
-    status, text, err = do("vt-expect", "a.test")
-    check.holds(status == 1 and "# 1 hold, 1 fail\n" in text, f"vt-expect: {status}, {text}{err}")
     status, session, err = do("vt-turns", "-", given=SESSION)
     check.holds(status == 0 and "    1, 1, 1, 2, 2, 2, 2, 2,\n" in session, f"vt-turns: {status}, {session}{err}")
     status, text, err = do("vt-watch", "json", given=session)
@@ -239,6 +249,7 @@ def main():
         shutil.rmtree(folder / "unproved")
         do = Installed(path_of(prefix, folder / "system"), folder / "run")
         check_programs(check, do)
+        check_terminals(check, do, clone.has_library)
         check_keymap_tools(check, do)
         check_engines(check, do, clone.has_library)
     print(f"{check.passed} passed, {check.failed} failed")

@@ -30,7 +30,10 @@ from programs import find_for_check, search_path  # noqa: E402
 TOP = pathlib.Path(__file__).resolve().parent.parent
 SECONDS = 60
 # Pages whose commands another check runs, in a folder of their own.
-RUN_ELSEWHERE = ("test-a-terminal-program.md", "embed-a-crate.md", "display-server.md", "c.md")
+RUN_ELSEWHERE = (
+    "test-a-terminal-program.md", "from-pyte-and-pexpect.md", "from-libvterm.md", "embed-a-crate.md",
+    "display-server.md", "c.md",
+)  # fmt: skip
 
 
 def examples(text):

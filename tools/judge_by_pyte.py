@@ -14,8 +14,12 @@ try:
 except ImportError:
     pyte = None
 
-from test_form import HALF, read_test
-from tool_files import Stop
+import package
+
+sys.path.insert(0, str(package.FOLDER))
+
+from libvt import HALF  # noqa: E402: after its folder
+from libvt.expect_files import Check, Fault, read_test  # noqa: E402
 
 # pyte's names of the eight colours, by the last digit of SGR's numbers; its default colours are those of a console.
 COLOURS = ("black", "red", "green", "brown", "blue", "magenta", "cyan", "white")
@@ -65,20 +69,28 @@ def wanted_look(numbers):
     return (*(reversed(colours) if 7 in numbers[2:] else colours), 1 in numbers[2:], 5 in numbers[2:])
 
 
+def has_rows(screen, lines):
+    """Whether pyte shows these rows, and blank ones below; None if a line isn't a row."""
+    if not all(line.startswith("|") for line in lines):
+        return None
+    count = screen.screen.lines
+    rows = [line[1:-1].rstrip() for line in lines] + [""] * (count - len(lines))
+    return [screen.row(y) for y in range(count)] == rows
+
+
 def agrees(screen, check):
-    """Whether pyte shows what an assertion wants; None where it can't be asked."""
+    """Whether pyte shows what an assertion wants; None if it can't be asked."""
     wanted = check.wanted
-    if check.kind == "row":
+    if check.kind == "row" and check.sign == "=":
         return screen.row(check.at[0]) == wanted.rstrip()
-    if check.kind == "screen":
-        count = screen.screen.lines
-        return [screen.row(y) for y in range(count)] == [row.rstrip() for row in wanted + [""] * (count - len(wanted))]
+    if check.kind == "screen" and wanted is None:
+        return has_rows(screen, [line for _, line in check.rows])
     if check.kind == "cursor":
         return (screen.screen.cursor.y, min(screen.screen.cursor.x, screen.screen.columns - 1)) == wanted
     if check.kind == "cell":
         return screen.code(*check.at) == wanted
-    if check.kind == "attr" and not {2, 3, 4} & set(wanted[0][2:]):
-        return screen.look(*check.at) == wanted_look(wanted[0])
+    if check.kind == "attr" and len(check.at) == 2 and not {2, 3, 4} & set(wanted.numbers[2:]):
+        return screen.look(*check.at) == wanted_look(wanted.numbers)
     if check.kind == "output":
         given = "".join(screen.reports).encode()
         screen.reports.clear()
@@ -88,14 +100,14 @@ def agrees(screen, check):
     return None
 
 
-def judge(test):
-    """Gives each assertion of a test, with whether pyte agrees."""
-    screen, done = Screen(*test.start), 0
-    for place, check in test.checks:
-        for step in test.steps[done:place]:
-            screen.take(step)
-        done = place
-        yield check, agrees(screen, check)
+def judge(file):
+    """Gives each assertion of a test file, with whether pyte agrees."""
+    screen = Screen(*file.start)
+    for part in file.parts:
+        if isinstance(part, Check):
+            yield part, agrees(screen, part)
+        elif part.word in ("PUSH", "FILE", "RESIZE"):
+            screen.take(part.value)
 
 
 def main():
@@ -108,10 +120,10 @@ def main():
             for check, held in judge(read_test(path)):
                 counts[held] += 1
                 if held is False:
-                    print(f"{path}:{check.place}: {check.name()}")
-    except Stop as stop:
-        print(f"judge_by_pyte.py: {stop}", file=sys.stderr)
-        return stop.status
+                    print(f"{path}:{check.line}: {check.name()}")
+    except Fault as fault:
+        print(f"judge_by_pyte.py: {fault}", file=sys.stderr)
+        return 2
     print(f"{counts[True]} agree, {counts[False]} differ, {counts[None]} not asked")
     return 1 if counts[False] else 0
 

@@ -31,10 +31,11 @@ LIBRARY = TOP / "out/c/lib/libvt.a"
 SECONDS = 300
 SHOWN_LINES = 25
 OF_C = "header,codes,cuts,outs,memory,threads,keys,faults,terminal,python,install,guide"
+OVER_LIBRARY = ("check_c.py", "check_expect.py", "check_python.py")
 # The checks, in groups that aren't run side by side: those of a group write the same files. The longest come first.
 CHECKS = [
     ["check_streams.py"],
-    ["check_expect.py --damaged 30"],
+    ["check_expect.py --damaged 30", "check_python.py"],
     [f"check_c.py --library out/c --runs 200 --only {OF_C}"],
     ["check_timeline.py"],
     ["check_pages.py", "check_watch.py 10", "check_keymaps.py 50", "check_why.py 100", "check_blocks.py"],
@@ -92,7 +93,7 @@ def run_cases():
 
 def is_left_out(check):
     """Why a check isn't run, or nothing."""
-    if check.startswith("check_c.py") and not LIBRARY.exists():
+    if check.startswith(OVER_LIBRARY) and not LIBRARY.exists():
         return "the C library isn't built"
     return ""
 

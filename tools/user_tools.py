@@ -13,12 +13,13 @@ import sys
 TOP = pathlib.Path(__file__).resolve().parent.parent
 TOOLS = TOP / "tools"
 NAMES = {
-    "vt-record": "record.py", "vt-expect": "expect.py", "vt-keymap": "keymap.py", "vt-why": "why.py",
-    "vt-compare-keymap": "compare_keymap.py", "vt-turns": "turns.py", "vt-timeline": "timeline.py",
+    "vt-record": "record.py", "vt-expect": "expect.py", "vt-animation": "animation.py", "vt-keymap": "keymap.py",
+    "vt-why": "why.py", "vt-compare-keymap": "compare_keymap.py", "vt-turns": "turns.py", "vt-timeline": "timeline.py",
     "vt-engines": "engines.py",
 }  # fmt: skip
 # What a module reads besides Python.
 DATA = {
+    "package.py": ["bindings/python/libvt/*.py", "bindings/python/libvt/py.typed", "bindings/python/pytest_libvt.py"],
     "timeline.py": ["tools/timeline*.css", "tools/timeline*.js"],
     "vt_names.py": ["crates/key_syms/src/table.rt", "crates/key_syms/src/index.rt"],
     "conformance/forms.py": ["examples/conformance/[a-z]*"],

@@ -1,22 +1,28 @@
-"""The screen machine and the keyboard of the Linux text console, by the C library libvt.so.1; vt(3) has its calls.
+"""The calls of the C library libvt.so.1: the screen machine and the keyboard of the Linux text console (vt(3)).
 
-    import vt
+    import libvt
 
-    with vt.Screen(25, 80) as screen:
+    with libvt.Screen(25, 80) as screen:
         for event in screen.feed(b"hello\\x1b[6n"):
             print(event)                        # Report(text=b'\\x1b[1;6R')
         print(screen.rows()[0].rstrip())        # hello
 
-The library is the file that VT_LIBRARY in the environment names, or libvt.so.1 where the system looks for libraries.
+The library is loaded from the first of these places: the file that VT_LIBRARY names, the folder of this package (a
+wheel has it there), the folder out/c/lib of the clone that contains this package, and the folders where the system
+looks for libraries.
 Rows and columns are counted from 0, from the top left. A call of one object waits for the others of that object, so
 that threads may share it. Nothing but Python's own library is needed.
 """
+from __future__ import annotations
+
 import ctypes
 import os
+import pathlib
 import threading
 from dataclasses import dataclass
-from typing import NamedTuple
+from typing import Any, Callable, Iterable, Mapping, NamedTuple, TypeVar, Union
 
+FILE = "libvt.so.1"
 OUTS = 64
 PIECE = 4096
 ROW = 255
@@ -26,13 +32,15 @@ KEYMODES = RAW, XLATE, MEDIUMRAW, UNICODE, OFF = range(5)
 METABIT, ESCPREFIX = 3, 4
 LIGHTS_FOLLOW = 255
 HALF = 0x110000
+# The colours of an attribute byte, in the order that the VGA has.
+NAMES = ("black", "blue", "green", "cyan", "red", "magenta", "yellow", "white")
 
 
 class Error(Exception):
-    """What every error of this module is."""
+    """The base class of the errors of this module."""
 
 
-class LibraryError(Error):
+class LibraryError(Error, ImportError):
     """The library isn't there, or isn't this one."""
 
 
@@ -55,7 +63,7 @@ class NotDrawable(Error):
 class KeymapFault(Error):
     """The first fault of a keymap: its kind, and its line and column, both from 1 (docs/codes.md)."""
 
-    def __init__(self, kind, line, column):
+    def __init__(self, kind: int, line: int, column: int) -> None:
         super().__init__(f"fault {kind} at line {line}, column {column}")
         self.kind, self.line, self.column = kind, line, column
 
@@ -118,6 +126,10 @@ class Attention:
     """The secure attention key."""
 
 
+Bytes = Union[bytes, bytearray, memoryview]
+Event = Union[Report, SwitchTo, SwitchLast, SwitchNext, SwitchPrevious, Lights, Bell, Typed, Spawn, Attention]
+
+
 class Cell(NamedTuple):
     """A cell: its character ("" for the right half of a wide one), its code, and its attribute byte."""
 
@@ -126,19 +138,25 @@ class Cell(NamedTuple):
     attribute: int
 
     @property
-    def colour(self):
+    def colour(self) -> int:
         """The colour of the character: the sum of blue 1, green 2, red 4, bright 8."""
         return self.attribute % 16
 
     @property
-    def background(self):
+    def background(self) -> int:
         """The colour behind it."""
         return self.attribute // 16 % 8
 
     @property
-    def blinks(self):
+    def blinks(self) -> bool:
         """Whether it blinks."""
         return self.attribute >= 128
+
+    @property
+    def words(self) -> str:
+        """Its colours in words: `red black bold` is bright red on black."""
+        words = [NAMES[self.colour & 7], NAMES[self.background]]
+        return " ".join(words + ["bold"] * (self.colour >> 3) + ["blink"] * self.blinks)
 
 
 class Cursor(NamedTuple):
@@ -156,6 +174,16 @@ class Modes(NamedTuple):
     keypad: bool = False
     repeat: bool = True
     newline: bool = False
+
+
+class Settings(NamedTuple):
+    """The other modes of a screen: DECSCNM, DECOM, DECAWM, IRM, DECCRM. These are those of a new screen."""
+
+    reverse: bool = False
+    origin: bool = False
+    autowrap: bool = True
+    insert: bool = False
+    display: bool = False
 
 
 @dataclass
@@ -188,6 +216,9 @@ class _Fed(ctypes.Structure):
 
 class _Cell(ctypes.Structure):
     _fields_ = [("code", ctypes.c_uint32), ("attr", ctypes.c_uint8), ("spare", ctypes.c_uint8 * 3)]
+
+
+CELL, ATTRIBUTE = ctypes.sizeof(_Cell), _Cell.attr.offset
 
 
 class _Modes(ctypes.Structure):
@@ -273,8 +304,16 @@ _CALLS = {
 }
 
 
-def _load():
-    name = os.environ.get("VT_LIBRARY") or "libvt.so.1"
+def _name() -> str:
+    """The library's file, or its name for the system."""
+    here = pathlib.Path(__file__).resolve().parent
+    files = [here / FILE, *(folder / "out/c/lib" / FILE for folder in here.parents)]
+    found = [str(file) for file in files if file.exists()]
+    return os.environ.get("VT_LIBRARY") or (found or [FILE])[0]
+
+
+def _load() -> ctypes.CDLL:
+    name = _name()
     try:
         library = ctypes.CDLL(name)
         for call, arguments in _CALLS.items():
@@ -292,11 +331,14 @@ _library = _load()
 _OK, _MADE, _RANGE, _NO_MEMORY, _NOTHING, _NO_ROOM, _FAULT, _NOT_DRAWABLE = range(8)
 
 
-def _unsigned(value, what):
+def _unsigned(value: int, what: str) -> int:
     """A number for the library; what doesn't fit in 32 bits is out of every range."""
     if not 0 <= value < 1 << 32:
         raise OutOfRange(f"{what}: {value}")
     return value
+
+
+_Self = TypeVar("_Self", bound="_Object")
 
 
 class _Object:
@@ -304,13 +346,15 @@ class _Object:
 
     _kind = ""
 
-    def __init__(self):
+    def __init__(self) -> None:
         self._handle = _Handle()
         self._lock = threading.RLock()
 
-    def _call(self, name, *arguments, what="a number is out of its range", may=()):
+    def _call(
+        self, name: str, *arguments: Any, what: str = "a number is out of its range", may: tuple[int, ...] = ()
+    ) -> int:
         with self._lock:
-            code = getattr(_library, f"vt_{self._kind}_{name}")(self._handle, *arguments)
+            code: int = getattr(_library, f"vt_{self._kind}_{name}")(self._handle, *arguments)
         if code == _OK or code in may:
             return code
         if code == _RANGE:
@@ -323,7 +367,7 @@ class _Object:
             raise NotDrawable("no text draws this screen")
         raise Error(f"vt_{self._kind}_{name}: code {code}")
 
-    def _text(self, name, *arguments, room, what="a number is out of its range"):
+    def _text(self, name: str, *arguments: Any, room: int, what: str = "a number is out of its range") -> bytes:
         """The text that a call gives, in as much room as it takes."""
         length = ctypes.c_size_t()
         with self._lock:
@@ -332,18 +376,18 @@ class _Object:
                 text = (ctypes.c_uint8 * length.value)()
         return ctypes.string_at(text, length.value)
 
-    def close(self):
+    def close(self) -> None:
         """Frees what the object has; a call after it raises Closed."""
         with self._lock:
             getattr(_library, f"vt_{self._kind}_free")(self._handle)
 
-    def __enter__(self):
+    def __enter__(self: _Self) -> _Self:
         return self
 
-    def __exit__(self, *_):
+    def __exit__(self, *_: object) -> None:
         self.close()
 
-    def __del__(self):
+    def __del__(self) -> None:
         if hasattr(self, "_lock"):
             self.close()
 
@@ -353,19 +397,20 @@ class Screen(_Object):
 
     _kind = "screen"
 
-    def __init__(self, rows, cols):
+    def __init__(self, rows: int, cols: int) -> None:
         super().__init__()
         what = f"{rows} rows and {cols} columns: each is 1 to 255"
         self._call("new", _unsigned(rows, what), _unsigned(cols, what), what=what)
         self._outs, self._fed = (_Out * OUTS)(), _Fed()
 
-    def feed(self, text):
+    def feed(self, text: Bytes) -> list[Event]:
         """Draws the bytes, however they are cut into calls. Returns a list of what they ask for, in order: Report,
         SwitchTo, SwitchLast, Lights, Bell."""
-        text, events = memoryview(bytes(text)), []
+        view = memoryview(bytes(text))
+        events: list[Event] = []
         with self._lock:
-            for at in range(0, max(1, len(text)), PIECE):
-                piece = bytes(text[at:at + PIECE])
+            for at in range(0, max(1, len(view)), PIECE):
+                piece = bytes(view[at:at + PIECE])
                 while True:
                     self._call("feed", piece, len(piece), self._outs, OUTS, self._fed)
                     events += map(_event, self._outs[:self._fed.outs])
@@ -374,110 +419,119 @@ class Screen(_Object):
                     piece = piece[self._fed.taken:]
         return events
 
-    def write(self, text):
+    def write(self, text: Bytes) -> None:
         """Draws the bytes, and drops what they ask for."""
         text = bytes(text)
         self._call("write", text, len(text))
 
-    def _state(self):
+    def _state(self) -> _State:
         state = _State()
         self._call("state", state)
         return state
 
     @property
-    def size(self):
+    def size(self) -> tuple[int, int]:
         """How many rows and columns the screen has."""
         state = self._state()
         return state.rows, state.cols
 
     @property
-    def cursor(self):
+    def cursor(self) -> Cursor:
         """Where the cursor is, and whether it is shown."""
         state = self._state()
         return Cursor(state.y, state.x, bool(state.visible))
 
     @property
-    def modes(self):
+    def modes(self) -> Modes:
         """The modes that keys depend on, for Keyboard.scan."""
         modes = self._state().modes
         return Modes(*(bool(mode) for mode in (modes.cursor_keys, modes.keypad, modes.repeat, modes.newline_mode)))
 
     @property
-    def reverse(self):
+    def settings(self) -> Settings:
+        """The modes that keys don't depend on."""
+        state = self._state()
+        modes = (state.reverse, state.origin, state.autowrap, state.insert, state.controls)
+        return Settings(*(bool(mode) for mode in modes))
+
+    @property
+    def reverse(self) -> bool:
         """Whether the screen is shown reversed (DECSCNM)."""
         return bool(self._state().reverse)
 
-    def row(self, row):
+    def row(self, row: int) -> str:
         """The characters of a row."""
         what = f"row {row}"
         return self._text("row_text", _unsigned(row, what), room=4 * ROW, what=what).decode("utf-8", "surrogatepass")
 
-    def rows(self):
+    def rows(self) -> list[str]:
         """The characters of each row, from the top."""
         with self._lock:
             return [self.row(row) for row in range(self.size[0])]
 
-    def cell(self, row, col):
+    def cell(self, row: int, col: int) -> Cell:
         """One cell."""
         cell, what = _Cell(), f"row {row}, column {col}"
         self._call("cell", _unsigned(row, what), _unsigned(col, what), cell, what=what)
         return _cell(cell)
 
-    def cells(self, row):
+    def cells(self, row: int) -> list[Cell]:
         """The cells of a row, from its left."""
         cells, what = (_Cell * ROW)(), f"row {row}"
         with self._lock:
             self._call("row", _unsigned(row, what), cells, ROW, what=what)
-            return [_cell(cell) for cell in cells[:self.size[1]]]
+            given, step = bytes(cells)[:self.size[1] * CELL], CELL // 4
+        codes, attributes = memoryview(given).cast("I")[::step], given[ATTRIBUTE::CELL]
+        return [Cell("" if code >= HALF else chr(code), code, byte) for code, byte in zip(codes, attributes)]
 
-    def mark(self):
+    def mark(self) -> None:
         """Remembers the cells as they are, for changed_rows."""
         self._call("mark")
 
-    def changed_rows(self):
+    def changed_rows(self) -> list[int]:
         """The numbers of the rows that differ from the cells that mark remembered; all of them, if there are none."""
         rows = (ctypes.c_uint8 * ROW)()
         with self._lock:
             self._call("changed", rows, ROW)
             return [row for row in range(self.size[0]) if rows[row]]
 
-    def resize(self, rows, cols):
+    def resize(self, rows: int, cols: int) -> None:
         """Gives the screen another size."""
         what = f"{rows} rows and {cols} columns: each is 1 to 255"
         self._call("resize", _unsigned(rows, what), _unsigned(cols, what), what=what)
 
     @property
-    def palette(self):
+    def palette(self) -> list[tuple[int, int, int]]:
         """Red, green and blue of the colours 0 to 15, in the order of SGR."""
         colours = (_Colour * COLOURS)()
         self._call("palette", colours, COLOURS)
         return [_parts(colour) for colour in colours]
 
-    def colour(self, number):
+    def colour(self, number: int) -> tuple[int, int, int]:
         """Red, green and blue of a colour, 0 to 15 in the order of SGR."""
         if not 0 <= number < COLOURS:
             raise OutOfRange(f"colour {number}")
         return self.palette[number]
 
-    def set_colour(self, number, red, green, blue):
+    def set_colour(self, number: int, red: int, green: int, blue: int) -> None:
         """Sets red, green and blue of a colour, 0 to 15 in the order of SGR."""
         what = f"colour {number}: {red}, {green}, {blue}"
         if not all(0 <= part < 256 for part in (red, green, blue)):
             raise OutOfRange(what)
         self._call("set_colour", _unsigned(number, what), red, green, blue, what=what)
 
-    def set_user(self, words):
+    def set_user(self, words: Iterable[int]) -> None:
         """Sets the user's table of characters (ESC ( K): 256 words."""
         words = list(words)
         if len(words) != 256 or not all(0 <= word < 1 << 16 for word in words):
             raise OutOfRange("a table has 256 words from 0 to 65535")
         self._call("set_user", (ctypes.c_uint16 * 256)(*words))
 
-    def redraw(self):
+    def redraw(self) -> bytes:
         """The text that draws this screen on a terminal of its size. NotDrawable, if there is none."""
         return self._text("redraw", room=4096)
 
-    def redraw_changes(self):
+    def redraw_changes(self) -> bytes:
         """The same for a terminal that shows the cells that mark remembered: only rows that differ are in the text."""
         return self._text("redraw_changes", room=4096)
 
@@ -492,29 +546,32 @@ class Keyboard(_Object):
 
     _kind = "keys"
 
-    def __init__(self, keymap, includes=None, mode=UNICODE):
+    def __init__(
+        self, keymap: str | Bytes, includes: Mapping[str | bytes, str | bytes] | None = None, mode: int = UNICODE
+    ) -> None:
         super().__init__()
         text = _encoded(keymap)
         pairs = [(_encoded(name), _encoded(included)) for name, included in (includes or {}).items()]
-        texts = (_Text * max(1, len(pairs)))(*((name, len(name), text, len(text)) for name, text in pairs))
+        texts = (_Text * max(1, len(pairs)))(
+            *(_Text(name, len(name), included, len(included)) for name, included in pairs))
         fault = _Fault()
         if self._call("new", text, len(text), texts, len(pairs), fault, may=(_FAULT,)) == _FAULT:
             raise KeymapFault(fault.kind, fault.line, fault.column)
         self._key = _Key()
         self.state = KeyState(mode=mode)
 
-    def scan(self, byte, modes=Modes()):
+    def scan(self, byte: int, modes: Modes = Modes()) -> Event | None:
         """Types one scan byte. Returns what it sends or asks for: Typed, SwitchTo, SwitchLast, SwitchNext,
         SwitchPrevious, Spawn, Attention; or None."""
         if not 0 <= byte < 256:
             raise OutOfRange(f"scan byte {byte}")
         return self._typed("scan", byte, modes=modes)
 
-    def key(self, keycode, is_down=True, modes=Modes()):
+    def key(self, keycode: int, is_down: bool = True, modes: Modes = Modes()) -> Event | None:
         """Types a key by its keycode, 1 to 255, as evdev has it. Returns as scan does."""
         return self._typed("key", _unsigned(keycode, f"keycode {keycode}"), bool(is_down), modes=modes)
 
-    def _typed(self, call, *words, modes):
+    def _typed(self, call: str, *words: Any, modes: Modes) -> Event | None:
         numbers = [getattr(self.state, name) for name in KeyState.__dataclass_fields__]
         if not all(0 <= number < 256 for number in numbers):
             raise OutOfRange(f"{self.state}")
@@ -525,80 +582,81 @@ class Keyboard(_Object):
                 setattr(self.state, name, getattr(own, name))
             return _key_event(self._key)
 
-    def type(self, scans, modes=Modes()):
+    def type(self, scans: Iterable[int], modes: Modes = Modes()) -> list[Event]:
         """Types scan bytes. Returns a list of what they send or ask for."""
         return [event for event in (self.scan(byte, modes) for byte in bytes(scans)) if event is not None]
 
-    def release(self):
+    def release(self) -> None:
         """Releases the keys as if the keyboard were unplugged: none of them sends anything."""
         self._call("release")
 
-    def entry(self, table, keycode):
+    def entry(self, table: int, keycode: int) -> tuple[int, int]:
         """The action of a keycode in a table, as its kind and its value (docs/KEYS.md, "Actions")."""
         action, what = _Action(), f"table {table}, keycode {keycode}"
         self._call("entry", _unsigned(table, what), _unsigned(keycode, what), action, what=what)
         return action.kind, action.value
 
-    def set_entry(self, table, keycode, kind, value):
+    def set_entry(self, table: int, keycode: int, kind: int, value: int) -> None:
         """Sets the action of a keycode in a table."""
         what = f"table {table}, keycode {keycode}, kind {kind}, value {value}"
         if not 0 <= kind < 1 << 16 or not 0 <= value < 1 << 16:
             raise OutOfRange(what)
         self._call("set_entry", _unsigned(table, what), _unsigned(keycode, what), _Action(kind, value), what=what)
 
-    def keycode(self, scan):
+    def keycode(self, scan: int) -> int:
         """The keycode of a scan number, or 0: 1 to 127, and 129 to 255 for 1 to 127 after E0."""
         keycode, what = ctypes.c_uint32(), f"scan number {scan}"
         self._call("keycode", _unsigned(scan, what), keycode, what=what)
         return keycode.value
 
-    def set_keycode(self, scan, keycode):
+    def set_keycode(self, scan: int, keycode: int) -> None:
         """Sets the keycode of a scan number, 0 to 255; 0 is none."""
         what = f"scan number {scan}, keycode {keycode}"
         self._call("set_keycode", _unsigned(scan, what), _unsigned(keycode, what), what=what)
 
-    def pairs(self):
+    def pairs(self) -> list[tuple[int, int, int]]:
         """The pairs of compose keys, each an accent, a letter and the character that they make."""
         pairs, count = (_Pair * PAIRS)(), ctypes.c_size_t()
         self._call("pairs", pairs, PAIRS, count)
         return [(pair.accent, pair.base, pair.result) for pair in pairs[:count.value]]
 
-    def set_pairs(self, pairs):
+    def set_pairs(self, pairs: Iterable[tuple[int, int, int]]) -> None:
         """Sets the pairs: at most 256, of numbers up to 65535."""
         pairs, what = list(pairs), "at most 256 pairs of numbers from 0 to 65535"
         own = (_Pair * max(1, len(pairs)))(*(_Pair(*(_unsigned(number, what) for number in pair)) for pair in pairs))
         self._call("set_pairs", own, len(pairs), what=what)
 
-    def string(self, number):
+    def string(self, number: int) -> bytes:
         """The string of a function key, 0 to 255."""
         what = f"function key {number}"
         return self._text("string", _unsigned(number, what), room=255, what=what)
 
-    def set_string(self, number, text):
+    def set_string(self, number: int, text: Bytes) -> None:
         """Sets the string of a function key, 0 to 255, to at most 255 bytes."""
         text, what = bytes(text), f"function key {number}, {len(text)} bytes"
         self._call("set_string", _unsigned(number, what), text, len(text), what=what)
 
 
-def _encoded(text):
+def _encoded(text: str | Bytes) -> bytes:
     return text.encode() if isinstance(text, str) else bytes(text)
 
 
-def _parts(colour):
+def _parts(colour: _Colour) -> tuple[int, int, int]:
     return colour.red, colour.green, colour.blue
 
 
-def _cell(cell):
+def _cell(cell: _Cell) -> Cell:
     return Cell("" if cell.code >= HALF else chr(cell.code), cell.code, cell.attr)
 
 
-def _event(out):
-    kinds = {2: lambda: SwitchTo(out.number), 3: SwitchLast, 4: lambda: Lights(out.number), 5: Bell}
+def _event(out: _Out) -> Event:
+    kinds: dict[int, Callable[[], Event]] = {
+        2: lambda: SwitchTo(out.number), 3: SwitchLast, 4: lambda: Lights(out.number), 5: Bell}
     return Report(bytes(out.text[:out.length])) if out.kind == 1 else kinds[out.kind]()
 
 
-def _key_event(key):
-    kinds = {
+def _key_event(key: _Key) -> Event | None:
+    kinds: dict[int, Callable[[], Event | None]] = {
         0: lambda: None, 1: lambda: Typed(bytes(key.bytes[:key.length])), 2: lambda: SwitchTo(key.number),
         3: SwitchLast, 4: SwitchNext, 5: SwitchPrevious, 6: Spawn, 7: Attention}
     return kinds[key.kind]()
