@@ -4,7 +4,8 @@ use Rattle.keys_c.specs.Codes.{NOTHING, OK, RANGE}
 use Rattle.keys_c.specs.KeyboardView.{KeyboardView}
 
 -- the keyboard changes if there is one and it takes the numbers
-abbrev pub ChangesIf : Option KeyboardView → (KeyboardView → Bool) → (KeyboardView → KeyboardView) → ℕ → Option KeyboardView → Type 0
+abbrev pub ChangesIf :
+    Option KeyboardView → (KeyboardView → Bool) → (KeyboardView → KeyboardView) → ℕ → Option KeyboardView → Type 0
 ChangesIf None takes change code new = (code ≡ NOTHING) × (new ≡ None)
 ChangesIf (Some k) takes change code new =
     (code ≡ cond (takes k) OK RANGE) × (new ≡ Some (cond (takes k) (change k) k))

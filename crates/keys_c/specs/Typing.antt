@@ -29,7 +29,8 @@ TypesIf false step shown code old new = (code ≡ RANGE) × (new ≡ old)
 TypesIf true step shown code old new = (code ≡ OK) × (new ≡ after_step step shown old)
 
 -- the same if there is a keyboard
-abbrev pub TypesOn : Option KeyboardView → Bool → (KeyboardView → ScanStep) → (KeyOut → KeyOut) → ℕ → Typed → Typed → Type 0
+abbrev pub TypesOn :
+    Option KeyboardView → Bool → (KeyboardView → ScanStep) → (KeyOut → KeyOut) → ℕ → Typed → Typed → Type 0
 TypesOn None in_range step shown code old new = (code ≡ NOTHING) × (new ≡ old)
 TypesOn (Some k) in_range step shown code old new = TypesIf in_range (step k) shown code old new
 

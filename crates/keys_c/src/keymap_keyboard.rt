@@ -116,7 +116,8 @@ impl KeymapKeyboard {
 
     /// The keycode of a scan number, or 0.
     pub(crate) fn keycode(&self, scan: u8) -> Option<u16>
-        ensures some { IfSome result (λ code. IsTrue (is_scan scan) × (code ≡ slice_index self.now.scanner.codes scan)) }
+        ensures some { IfSome result (λ code.
+            IsTrue (is_scan scan) × (code ≡ slice_index self.now.scanner.codes scan)) }
         ensures none { IfNone result (is_scan scan ≡ false) }
     {
         self.scanner.get(u16::from(scan)).ok()

@@ -5,9 +5,9 @@ use crate::lent_keyboard::LentKeyboard;
 use std::marker::Model;
 use std::mem;
 
-/// A keyboard as a call gets it that only reads: a loan, in a struct of one pointer. Many loans of a keyboard may be out
-/// at once, in many threads; each goes to one call at a time, and gives its part of the keyboard back at the call's end.
-/// In contracts `value` is the keyboard, or `None`.
+/// A keyboard as a call gets it that only reads: a loan, in a struct of one pointer. Many loans of a keyboard may be
+/// out at once, in many threads; each goes to one call at a time, and gives its part of the keyboard back at the call's
+/// end. In contracts `value` is the keyboard, or `None`.
 #[repr(C)]
 #[derive(Drop)]
 pub struct KeysLoan {

@@ -90,7 +90,8 @@ pub extern "C" fn vt_keys_key(
 
 // The key state, if its numbers are in their ranges and all spare bytes are 0.
 fn known(modes: &VtModes, state: &VtKeyState) -> Option<KbState>
-    ensures some { IfSome result (λ s. IsTrue (is_modes modes.now && is_key_state state.now) × (s ≡ state_in state.now)) }
+    ensures some { IfSome result (λ s.
+        IsTrue (is_modes modes.now && is_key_state state.now) × (s ≡ state_in state.now)) }
     ensures none { IfNone result ((is_modes modes.now && is_key_state state.now) ≡ false) }
 {
     if modes.is_known() {

@@ -6,7 +6,7 @@ use contract.Monad.{fact, fact_i}
 use contract.Running.{tables}
 use denote.Exit.{yes}
 use denote.Param.{layout}
-use denote.RattleType.{RattleType, Valss, owns}
+use denote.RattleType.{Valss, owns}
 use denote.RawPtr.{Ptr, block_ptr, null_ptr, ptr_val}
 use denote.Signature.{types_at, plain}
 use denote.Steps.{nothing}

@@ -1,6 +1,6 @@
 -- The pointer is null if nothing is lent, and else a block's.
-use Rattle.std.proofs.Common.{◌≡◌, ℕ, Bool, true, false, List, [], ◌∷◌, refl, sym, ap, ◌∙◌}
-use base.Fml.{Lft, Fml, ftrue, flft, fhide}
+use Rattle.std.proofs.Common.{◌≡◌, ℕ, true, false, List, [], ◌∷◌, refl, sym, ap, ◌∙◌}
+use base.Fml.{Lft, ftrue, flft, fhide}
 use base.Logic.{SProp, emp}
 use contract.Monad.{fact, fact_i}
 use contract.Running.{tables}
@@ -23,7 +23,7 @@ use denote.Struct.Struct.{Struct, Struct-Tells}
 use denote.Triple.Walked.{Stays, stay_dropped, walk_of, Goes-dropped}
 use mir.Syntax.{named, ty_ptr}
 use mir.Val.{Val, vptr, vbool}
-use types.ByLocal.{alloc_all, pass_all, free_all, look_at, get, through, sets, env}
+use types.ByLocal.{alloc_all, pass_all, free_all, look_at, get, through, sets}
 use types.Kit.{‵, raw, ◌⊛◌, ◌$◌, ◌∵◌, !, qed, by, move, keep, drop, split, join, fsplit, fjoin, feq_i, rewrite, use0, use1}
 use types.Part.{sub, whole, look_in}
 use types.Run.{stop, fld, lit, load, bin, of_opd, returns, enter}

@@ -1,6 +1,6 @@
 -- The pointer of a value that is lent is followed.
-use Rattle.std.proofs.Common.{◌≡◌, ℕ, Bool, true, false, List, [], ◌∷◌, refl, sym, ap, ◌∙◌}
-use base.Fml.{Lft, Fml, ftrue, flft, fhide}
+use Rattle.std.proofs.Common.{◌≡◌, ℕ, List, [], ◌∷◌, refl, sym, ap, ◌∙◌}
+use base.Fml.{Lft, ftrue, flft, fhide}
 use base.Logic.{SProp, emp}
 use contract.Monad.{fact, fact_i}
 use contract.Running.{tables}
@@ -11,7 +11,7 @@ use denote.Laws.{Is, shows}
 use denote.Memory.{cell_at, hidden_shr}
 use denote.Opens.{unhide, hide}
 use denote.RattleType.{RattleType, owns}
-use denote.RawPtr.{Ptr, block_ptr, null_ptr, ptr_val, coded_ptr, ptr_own, rawptr_pure, tests_null}
+use denote.RawPtr.{Ptr, block_ptr, ptr_val, coded_ptr, ptr_own, rawptr_pure}
 use denote.Ref.{shr_vals, shr_Tells}
 use denote.Signature.{types_at, plain}
 use denote.Steps.{nothing, heard, looks, shuts, peeks}
@@ -22,7 +22,7 @@ use denote.Struct.Owning.{shape}
 use denote.Struct.Struct.{Struct, Struct-Tells}
 use denote.Triple.Walked.{Stays, stay_dropped, walk_of, Goes-dropped}
 use mir.Syntax.{named, ty_ptr}
-use mir.Val.{Val, vptr, vbool}
+use mir.Val.{Val, vptr}
 use types.ByLocal.{alloc_all, pass_all, free_all, look_at, get, through, sets, sets_last, env}
 use types.Kit.{at_ret, ‵, raw, ◌⊛◌, ◌$◌, ◌∵◌, !, qed, by, move, keep, drop, split, join, fsplit, fjoin, feq_i, rewrite, use0, use1}
 use types.Part.{sub, whole, look_in}

@@ -1,7 +1,7 @@
 -- A null pointer is a loan of nothing.
 use Rattle.std.proofs.Common.{◌≡◌, List, [], ◌∷◌, refl, lit<}
 use base.Fml.{ftrue}
-use base.Logic.{SProp, ent, emp}
+use base.Logic.{SProp, emp}
 use contract.Monad.{fact, fact_i}
 use contract.Running.{tables}
 use denote.Param.{layout}
@@ -11,9 +11,8 @@ use denote.Signature.{types_at}
 use denote.Steps.{nothing}
 use denote.Struct.Owning.{shape, to, fields}
 use denote.Struct.Struct.{within}
-use denote.Triple.Walked.{Stays, walk_of}
+use denote.Triple.Walked.{walk_of}
 use mir.Val.{Val}
-use prog.Wp.{WpFn}
 use types.ByLocal.{alloc_all, pass_all, free_all, look_at, sets}
 use types.Kit.{‵, raw, ◌⊛◌, ◌$◌, ◌∵◌, !, qed, by, keep, split, fjoin, fpack, feq_i, use0}
 use types.Part.{agg}
@@ -26,7 +25,7 @@ use Rattle.keys_c.specs.contracts.loan.KeysLoan as loan
 use Rattle.keys_c.specs.contracts.loan.KeysLoan.none.Key.{name as own_name}
 use Rattle.keys_c.specs.contracts.loan.KeysLoan.none.{ended, clauses}
 use Rattle.std.proofs.raw_atomic.Walks.{proved_at, leaves}
-use Rattle.std.specs.Prelude.{Option, None}
+use Rattle.std.specs.Prelude.{None}
 
 abbrev nothing_lent : loan.the_row.Denot
 nothing_lent = record { at = null_ptr; value = None; life = 0; part = 0 }
