@@ -4,7 +4,7 @@ use Rattle.example_redraw.specs.declared.drawing.Drawing.{Drawing}
 use Rattle.example_redraw.specs.declared.drawing.Drawing.TheVariants as drawing
 use Rattle.vt_redraw.specs.Drawable.{is_redrawable}
 use Rattle.vt_redraw.specs.Redraw.{redraw_of}
-use Rattle.vt_screen.specs.Screen.{Screen}
+use Rattle.vt_canvas.specs.Screen.{Screen}
 
 -- the text that draws the screen again, if it can be drawn; otherwise none
 abbrev pub IsDrawn : Screen → Drawing → Type 0

@@ -4,7 +4,7 @@ use Rattle.screen_c.specs.Shown.{c_out}
 use Rattle.screen_c.specs.declared.vt_fed.VtFed.{VtFed}
 use Rattle.screen_c.specs.declared.vt_out.VtOut.{VtOut}
 use Rattle.vt_screen.specs.Run.{after, outs_of_run}
-use Rattle.vt_screen.specs.Screen.{Screen}
+use Rattle.vt_canvas.specs.Screen.{Screen}
 use Rattle.vt_units.specs.Run.{Reached}
 
 -- the first `taken` bytes were run, their `outs` outs stand in the first places in order, and the other places stay.

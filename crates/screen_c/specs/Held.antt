@@ -2,7 +2,7 @@
 use Rattle.std.specs.Prelude.{ℕ, Option, Some, None}
 use Rattle.vt_grid.specs.Grid.{GridView}
 use Rattle.vt_screen.specs.Run.{start}
-use Rattle.vt_screen.specs.Screen.{Screen}
+use Rattle.vt_canvas.specs.Screen.{Screen}
 use Rattle.vt_units.specs.Run.{Reached}
 
 -- the screen with its pending text, and the marked cells, if any

@@ -7,9 +7,9 @@ use Rattle.screen_c.specs.declared.vt_out.VtOut.{VtOut}
 use Rattle.screen_c.specs.declared.vt_state.VtState.{VtState}
 use Rattle.vt_cells.specs.Colours.{Rgb}
 use Rattle.vt_cells.specs.declared.cell.Cell.{Cell}
-use Rattle.vt_screen.specs.Screen.{Screen}
-use Rattle.vt_screen.specs.declared.out.Out.TheVariants.{Bell, Lights, Report, SwitchLast, SwitchTo}
-use Rattle.vt_screen.specs.declared.out.Out.{Out}
+use Rattle.vt_canvas.specs.Screen.{Screen}
+use Rattle.vt_canvas.specs.declared.out.Out.TheVariants.{Bell, Lights, Report, SwitchLast, SwitchTo}
+use Rattle.vt_canvas.specs.declared.out.Out.{Out}
 
 abbrev pub c_cell : Cell → VtCell
 c_cell cell = record { code = cell.code; attr = cell.attr; spare = replicate 3 0 }

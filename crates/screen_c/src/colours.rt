@@ -5,7 +5,8 @@ ghost use Rattle.screen_c.specs.Held.{with_machine};
 ghost use Rattle.screen_c.specs.Loans.{IsSameLoan};
 ghost use Rattle.screen_c.specs.Places.{with_items};
 ghost use Rattle.screen_c.specs.Shown.{c_colour};
-ghost use Rattle.vt_screen.specs.Tape.{palette, user_map, with_change};
+ghost use Rattle.vt_screen.specs.Tape.{with_change};
+ghost use Rattle.vt_canvas.specs.Change.{palette, user_map};
 
 use crate::{ScreenHandle, ScreenLoan, VtColour, code};
 use std::alloc::Global;

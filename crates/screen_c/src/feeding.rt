@@ -5,7 +5,7 @@ ghost use Rattle.screen_c.specs.Fed.{IsFed};
 ghost use Rattle.screen_c.specs.Held.{with_machine};
 ghost use Rattle.screen_c.specs.Shown.{c_out};
 ghost use Rattle.vt_screen.specs.Run.{after, outs_of_option};
-ghost use Rattle.vt_screen.specs.Screen.{Screen};
+ghost use Rattle.vt_canvas.specs.Screen.{Screen};
 ghost use Rattle.vt_units.specs.Run.{Reached};
 
 use crate::{ScreenHandle, VtFed, VtOut, code};

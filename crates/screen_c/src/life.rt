@@ -3,7 +3,8 @@ ghost use Rattle.std.specs.Prelude.{◌≡◌, ◌⊎◌, IfNone, IfOk, IfSome, 
 ghost use Rattle.screen_c.specs.Codes.{MADE, NOTHING, NO_MEMORY, OK, RANGE};
 ghost use Rattle.screen_c.specs.Held.{new_screen, unmarked};
 ghost use Rattle.screen_c.specs.Sizes.{IsSize};
-ghost use Rattle.vt_screen.specs.Tape.{resize, with_change};
+ghost use Rattle.vt_screen.specs.Tape.{with_change};
+ghost use Rattle.vt_canvas.specs.Change.{resize};
 
 use crate::{OwnedScreen, ScreenHandle, code};
 use std::alloc::Global;

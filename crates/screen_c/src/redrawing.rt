@@ -6,7 +6,7 @@ ghost use Rattle.screen_c.specs.Marks.{IsAtMark, text_from_mark};
 ghost use Rattle.screen_c.specs.Text.{HandsOver};
 ghost use Rattle.vt_redraw.specs.Drawable.{is_redrawable};
 ghost use Rattle.vt_redraw.specs.Redraw.{IsSameSize, Redraws, redraw_of};
-ghost use Rattle.vt_screen.specs.Screen.{IsWhole, Screen};
+ghost use Rattle.vt_canvas.specs.Screen.{IsWhole, Screen};
 
 use crate::handing_over::hand_over;
 use crate::marks::has_same_size;

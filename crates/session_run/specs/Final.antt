@@ -4,7 +4,7 @@ use Rattle.std.specs.List.{flat_map, range_with_len}
 use Rattle.in_queue.specs.Queue.{Queue}
 use Rattle.vt_journal.specs.Hex.{hex_text}
 use Rattle.vt_journal.specs.Journal.{line_text}
-use Rattle.vt_screen.specs.Screen.{Screen}
+use Rattle.vt_canvas.specs.Screen.{Screen}
 use Rattle.vt_dump.specs.Rows.{rows_text}
 use Rattle.vt_world.specs.Inputs.{input_at}
 use Rattle.vt_world.specs.State.{WorldState}

@@ -9,14 +9,14 @@ use Rattle.vt_cells.specs.Width.{columns}
 use Rattle.vt_redraw.proofs.Keeps.{Keeps, alignment_pattern_keeps, back_keeps, byte_keeps, cha_keeps, cnl_keeps, coding_keeps, colour_keeps, column_keeps, cpl_keeps, cub_keeps, cud_keeps, cuf_keeps, cuu_keeps, dch_keeps, dim_keeps, dl_keeps, each_keeps, ech_keeps, ed_keeps, el_keeps, g0_keeps, g1_keeps, ich_keeps, il_keeps, after_shift_keeps, keeps_if, keeps_nothing, keypad_keeps, linefeed_keeps, mode_keeps, newline_keeps, next_keeps, pair_keeps, place_keeps, print_keeps, private_keeps, region_keeps, restore_keeps, reverse_keeps, save_keeps, sgr_keeps, start_palette_keeps, underline_keeps, vpa_keeps}
 use Rattle.vt_redraw.specs.Behind.{IsAlike, TextsFollow, with_stops}
 use Rattle.vt_redraw.specs.Redraw.{IsStored, redrawn_on}
-use Rattle.vt_screen.specs.Cursor.{tab}
-use Rattle.vt_screen.specs.Effect.{control, control_sequence, count_of, effect, escape, number_at, plain_escape, private_sequence}
+use Rattle.vt_canvas.specs.Cursor.{tab}
+use Rattle.vt_canvas.specs.Effect.{control, control_sequence, count_of, effect, escape, number_at, plain_escape, private_sequence}
 use Rattle.vt_screen.specs.Run.{ScreenAndOuts, screen_effects, with_outs, outs_of_option, then_done}
-use Rattle.vt_screen.specs.Saying.{Effect, console_setting, cursor_text, device_report, device_text, lights, without_out, with_out, status_report}
-use Rattle.vt_screen.specs.Screen.{Screen, is_start_stop, mode_of, with_state}
-use Rattle.vt_screen.specs.Settings.{alignment_pattern, clear_stops, reset, set_stop, with_mode, with_private_mode}
-use Rattle.vt_screen.specs.declared.out.Out.{Out}
-use Rattle.vt_screen.specs.declared.out.Out.TheVariants.{Bell, Lights, Report, SwitchLast, SwitchTo}
+use Rattle.vt_canvas.specs.Saying.{Effect, console_setting, cursor_text, device_report, device_text, lights, without_out, with_out, status_report}
+use Rattle.vt_canvas.specs.Screen.{Screen, is_start_stop, mode_of, with_state}
+use Rattle.vt_canvas.specs.Settings.{alignment_pattern, clear_stops, reset, set_stop, with_mode, with_private_mode}
+use Rattle.vt_canvas.specs.declared.out.Out.{Out}
+use Rattle.vt_canvas.specs.declared.out.Out.TheVariants.{Bell, Lights, Report, SwitchLast, SwitchTo}
 use Rattle.vt_units.specs.Answer.{answer, rest_after}
 use Rattle.vt_units.specs.Rest.{fresh}
 use Rattle.vt_units.specs.Run.{Reached, effect_of, effects_of, make_reached, run, step}

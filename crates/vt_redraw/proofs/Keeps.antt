@@ -4,12 +4,12 @@ use Rattle.std.specs.Prelude.{codes, if◌then◌else◌, slice_set}
 use Rattle.vt_cells.specs.Colours.{Rgb}
 use Rattle.vt_grid.specs.Grid.{scrolled_down, scrolled_up}
 use Rattle.vt_redraw.specs.Behind.{with_stops}
-use Rattle.vt_screen.specs.Cursor.{at_column, at_row, cursor_home, linefeed, cursor_to, newline, cursor_to_in_region, region_down, region_up, reverse_linefeed}
-use Rattle.vt_screen.specs.Erasing.{above_erased, all_erased, below_erased, cells_inserted, delete_characters, delete_lines, erase_characters, erase_display, erase_line, in_region, insert_characters, insert_lines, line_end_erased, line_erased, line_start_erased, rows_erased, without_pending_wrap, with_grid}
-use Rattle.vt_screen.specs.Printing.{codes_drawn, lacks_room, with_gap, print, with_cells_at_cursor, with_character, character_of_byte, after_wrap}
-use Rattle.vt_screen.specs.Saying.{with_default_pair, with_dim_colour, with_underline_colour}
-use Rattle.vt_screen.specs.Screen.{Screen, blank_of, with_state}
-use Rattle.vt_screen.specs.Settings.{alignment_pattern, each, after_shift, after_sgr, restore, save, with_coding, with_colour, with_g0, with_g1, with_keypad, with_mode, with_pen, with_private_mode, with_region, with_start_palette}
+use Rattle.vt_canvas.specs.Cursor.{at_column, at_row, cursor_home, linefeed, cursor_to, newline, cursor_to_in_region, region_down, region_up, reverse_linefeed}
+use Rattle.vt_canvas.specs.Erasing.{above_erased, all_erased, below_erased, cells_inserted, delete_characters, delete_lines, erase_characters, erase_display, erase_line, in_region, insert_characters, insert_lines, line_end_erased, line_erased, line_start_erased, rows_erased, without_pending_wrap, with_grid}
+use Rattle.vt_canvas.specs.Printing.{codes_drawn, lacks_room, with_gap, print, with_cells_at_cursor, with_character, character_of_byte, after_wrap}
+use Rattle.vt_canvas.specs.Saying.{with_default_pair, with_dim_colour, with_underline_colour}
+use Rattle.vt_canvas.specs.Screen.{Screen, blank_of, with_state}
+use Rattle.vt_canvas.specs.Settings.{alignment_pattern, each, after_shift, after_sgr, restore, save, with_coding, with_colour, with_g0, with_g1, with_keypad, with_mode, with_pen, with_private_mode, with_region, with_start_palette}
 
 -- what leaves the tab stops and doesn't ask for them
 pub record Keeps (f : Screen → Screen) : Type 0 where

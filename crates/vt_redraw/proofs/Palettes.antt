@@ -12,11 +12,11 @@ use Rattle.vt_redraw.proofs.Does.{Does, does_nothing, does_then, does_to}
 use Rattle.vt_redraw.proofs.Numbers.{below_holds}
 use Rattle.vt_redraw.specs.Sequences.{colour_text, hex_digit, hex_digits, start_palette_text}
 use Rattle.vt_redraw.specs.State.{colours_from, is_same_colour, palette_text}
-use Rattle.vt_screen.specs.Effect.{effect}
+use Rattle.vt_canvas.specs.Effect.{effect}
 use Rattle.vt_screen.specs.Run.{ScreenAndOuts, PiecesAct, screen_effects, outs_of_option, run_from}
-use Rattle.vt_screen.specs.Saying.{Effect, without_out}
-use Rattle.vt_screen.specs.Screen.{Screen, mode_of, with_state}
-use Rattle.vt_screen.specs.Settings.{with_colour, with_start_palette}
+use Rattle.vt_canvas.specs.Saying.{Effect, without_out}
+use Rattle.vt_canvas.specs.Screen.{Screen, mode_of, with_state}
+use Rattle.vt_canvas.specs.Settings.{with_colour, with_start_palette}
 use Rattle.vt_units.specs.Answer.{acts_in}
 use Rattle.vt_units.specs.Bytes.{acts, is_hex}
 use Rattle.vt_units.specs.Pieces.{HasEffect, controls_of, is_left_out, rest_with, text_of}

@@ -21,9 +21,9 @@ use Rattle.vt_redraw.specs.Parts.IsPart.{character, coding, colour, control, con
 use Rattle.vt_redraw.specs.Redraw.{IsStored, changes_of, redraw_of}
 use Rattle.vt_redraw.specs.Sequences.{byte_text, coding_text, colour_text, erase_text, g0_text, g1_text, keypad_text, mode_text, private_mode_text, save_text, sequence, shift_text, start_palette_text, stop_text, table_letter}
 use Rattle.vt_redraw.specs.State.{attributes_text, clearing_text, colours_from, colours_text, cursor_text, intensity_number, is_same_colour, mapping_text, modes_text, palette_text, pen_text, region_text, row_number, saved_text, setting_text, state_text, stops_from, stops_text, tables_text}
-use Rattle.vt_screen.specs.Screen.{Screen, start_blank}
-use Rattle.vt_screen.specs.declared.saved.Saved.{Saved}
-use Rattle.vt_screen.specs.declared.screen_state.ScreenState.{ScreenState}
+use Rattle.vt_canvas.specs.Screen.{Screen, start_blank}
+use Rattle.vt_canvas.specs.declared.saved.Saved.{Saved}
+use Rattle.vt_canvas.specs.declared.screen_state.ScreenState.{ScreenState}
 use Rattle.vt_sgr.specs.PenState.{PenState}
 use Rattle.vt_sgr.specs.Sgr.{is_of}
 

@@ -9,12 +9,12 @@ use Rattle.vt_redraw.proofs.Numbers.{sequence_does}
 use Rattle.vt_redraw.proofs.Paints.{attributes_does, bg_number, fg_number}
 use Rattle.vt_redraw.specs.Sequences.{sequence, stop_text}
 use Rattle.vt_redraw.specs.State.{colours_text, mapping_text, modes_text, pen_text, stops_from}
-use Rattle.vt_screen.specs.Cursor.{first_row, last_row}
-use Rattle.vt_screen.specs.Effect.{control_sequence}
-use Rattle.vt_screen.specs.Saying.{console_setting, without_out, with_dim_colour, with_underline_colour}
-use Rattle.vt_screen.specs.Screen.{Screen, with_state}
-use Rattle.vt_screen.specs.Settings.{after_sgr, set_stop, with_pen}
-use Rattle.vt_screen.specs.declared.screen_state.ScreenState.{ScreenState}
+use Rattle.vt_canvas.specs.Cursor.{first_row, last_row}
+use Rattle.vt_canvas.specs.Effect.{control_sequence}
+use Rattle.vt_canvas.specs.Saying.{console_setting, without_out, with_dim_colour, with_underline_colour}
+use Rattle.vt_canvas.specs.Screen.{Screen, with_state}
+use Rattle.vt_canvas.specs.Settings.{after_sgr, set_stop, with_pen}
+use Rattle.vt_canvas.specs.declared.screen_state.ScreenState.{ScreenState}
 use Rattle.vt_sgr.specs.PenState.{PenState, with_mapping, with_bg, with_fg}
 use Rattle.vt_units.specs.Laws.{ControlsAreUnits, SequencesAreUnits}
 

@@ -4,13 +4,13 @@ use Rattle.std.proofs.Common.{◌≡◌, ◌⊎◌, ℕ, zero, suc, ◌+◌, ◌
 use Rattle.std.proofs.lemmas.Bool.{and_parts, false≢true}
 use Rattle.vt_cells.specs.Colours.{Rgb}
 use Rattle.vt_redraw.proofs.PlainPens.{IsPlain, PlainPen, sgr-keeps}
-use Rattle.vt_screen.specs.Cursor.{at_column, cursor_to, cursor_to_in_region, linefeed, newline, reverse_linefeed, tab}
-use Rattle.vt_screen.specs.Effect.{control, control_sequence, count_of, escape, number_at, plain_escape, private_sequence}
-use Rattle.vt_screen.specs.Erasing.{cells_inserted, delete_characters, delete_lines, erase_characters, erase_display, erase_line, in_region, insert_characters, insert_lines, rows_erased}
-use Rattle.vt_screen.specs.Printing.{after_wrap, codes_drawn, lacks_room, print, with_cells_at_cursor, with_character, with_gap}
-use Rattle.vt_screen.specs.Saying.{Effect, console_setting, device_report, lights, status_report, without_out}
-use Rattle.vt_screen.specs.Screen.{Screen}
-use Rattle.vt_screen.specs.Settings.{after_sgr, after_shift, alignment_pattern, clear_stops, each, reset, restore, save, set_stop, with_coding, with_colour, with_g0, with_g1, with_keypad, with_mode, with_private_mode, with_region, with_start_palette}
+use Rattle.vt_canvas.specs.Cursor.{at_column, cursor_to, cursor_to_in_region, linefeed, newline, reverse_linefeed, tab}
+use Rattle.vt_canvas.specs.Effect.{control, control_sequence, count_of, escape, number_at, plain_escape, private_sequence}
+use Rattle.vt_canvas.specs.Erasing.{cells_inserted, delete_characters, delete_lines, erase_characters, erase_display, erase_line, in_region, insert_characters, insert_lines, rows_erased}
+use Rattle.vt_canvas.specs.Printing.{after_wrap, codes_drawn, lacks_room, print, with_cells_at_cursor, with_character, with_gap}
+use Rattle.vt_canvas.specs.Saying.{Effect, console_setting, device_report, lights, status_report, without_out}
+use Rattle.vt_canvas.specs.Screen.{Screen}
+use Rattle.vt_canvas.specs.Settings.{after_sgr, after_shift, alignment_pattern, clear_stops, each, reset, restore, save, set_stop, with_coding, with_colour, with_g0, with_g1, with_keypad, with_mode, with_private_mode, with_region, with_start_palette}
 
 -- the region has two rows, or the screen has one
 abbrev pub HasRows : ℕ → ℕ → ℕ → Type 0

@@ -13,15 +13,16 @@ use Rattle.vt_redraw.specs.Drawable.{is_plain_pair, is_state_drawable}
 use Rattle.vt_redraw.specs.Reached.{StatesAreDrawable, TapeStatesAreDrawable}
 use Rattle.vt_screen.proofs.InsideTable.{control_keeps, escape_keeps, private_keeps, sequence_keeps}
 use Rattle.vt_screen.proofs.Insides.{IsInside, coloured, colours_reset, printed_once}
-use Rattle.vt_screen.specs.Effect.{control_sequence, effect, private_sequence}
+use Rattle.vt_canvas.specs.Effect.{control_sequence, effect, private_sequence}
 use Rattle.vt_screen.specs.Inside.{HasPlaces}
-use Rattle.vt_screen.specs.Printing.{character_of_byte}
+use Rattle.vt_canvas.specs.Printing.{character_of_byte}
 use Rattle.vt_screen.specs.Run.{ScreenAndOuts, screen_effects, with_outs, start}
 use Rattle.vt_screen.specs.SavedCursor.{saved_of}
-use Rattle.vt_screen.specs.Screen.{Screen, mode_of, start_saved}
-use Rattle.vt_screen.specs.Tape.{Change, Taped, after_change, after_tape_item, byte, change, palette, resize, resized_to, run_tape, user_map}
-use Rattle.vt_screen.specs.declared.saved.Saved.{Saved}
-use Rattle.vt_screen.specs.declared.screen_state.ScreenState.{ScreenState}
+use Rattle.vt_canvas.specs.Screen.{Screen, mode_of, start_saved}
+use Rattle.vt_screen.specs.Tape.{Taped, after_tape_item, byte, change, run_tape}
+use Rattle.vt_canvas.specs.Change.{Change, after_change, palette, resize, resized_to, user_map}
+use Rattle.vt_canvas.specs.declared.saved.Saved.{Saved}
+use Rattle.vt_canvas.specs.declared.screen_state.ScreenState.{ScreenState}
 use Rattle.vt_units.specs.Answer.{answer}
 use Rattle.vt_units.specs.Run.{Reached, effect_of, run, step}
 use Rattle.vt_units.specs.declared.read.Read.{Read}

@@ -22,11 +22,11 @@ use Rattle.vt_redraw.specs.Cells.{changed_rows}
 use Rattle.vt_redraw.specs.Drawable.{is_plain_pair, is_redrawable, is_row_drawable, is_state_drawable}
 use Rattle.vt_redraw.specs.Redraw.{ChangesRedraw, IsSameSize, IsStored, ScreensRedraw, changes_of, redraw_of, redrawn_on}
 use Rattle.vt_redraw.specs.State.{cursor_text, modes_text, palette_text, pen_text, region_text, saved_text, state_text, stops_from, stops_text}
-use Rattle.vt_screen.specs.Cursor.{first_row, cursor_home, last_row, cursor_to, cursor_to_in_region}
-use Rattle.vt_screen.specs.Erasing.{with_grid}
+use Rattle.vt_canvas.specs.Cursor.{first_row, cursor_home, last_row, cursor_to, cursor_to_in_region}
+use Rattle.vt_canvas.specs.Erasing.{with_grid}
 use Rattle.vt_screen.specs.Run.{PiecesAct}
-use Rattle.vt_screen.specs.Screen.{IsWhole, Screen, start_blank, with_state}
-use Rattle.vt_screen.specs.declared.screen_state.ScreenState.{ScreenState}
+use Rattle.vt_canvas.specs.Screen.{IsWhole, Screen, start_blank, with_state}
+use Rattle.vt_canvas.specs.declared.screen_state.ScreenState.{ScreenState}
 use Rattle.vt_sgr.specs.PenState.{with_attributes as with_attr, with_mapping}
 use Rattle.vt_units.specs.Laws.{ControlsAreUnits, PrintablesAreCharacters, SequencesAreUnits}
 

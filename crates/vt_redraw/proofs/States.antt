@@ -21,14 +21,14 @@ use Rattle.vt_redraw.specs.Cells.{cells_text}
 use Rattle.vt_redraw.specs.Drawable.{is_row_drawable}
 use Rattle.vt_redraw.specs.Sequences.{place_text}
 use Rattle.vt_redraw.specs.State.{clearing_text, cursor_text, region_text, row_number, saved_text, setting_text}
-use Rattle.vt_screen.specs.Cursor.{first_row, cursor_home, last_row, cursor_to, cursor_to_in_region}
-use Rattle.vt_screen.specs.Effect.{control_sequence}
-use Rattle.vt_screen.specs.Erasing.{erase_display, rows_erased, with_grid}
-use Rattle.vt_screen.specs.Saying.{without_out}
-use Rattle.vt_screen.specs.Screen.{Screen, erased_byte, start_blank, with_state}
-use Rattle.vt_screen.specs.Settings.{after_shift, save}
-use Rattle.vt_screen.specs.declared.saved.Saved.{Saved}
-use Rattle.vt_screen.specs.declared.screen_state.ScreenState.{ScreenState}
+use Rattle.vt_canvas.specs.Cursor.{first_row, cursor_home, last_row, cursor_to, cursor_to_in_region}
+use Rattle.vt_canvas.specs.Effect.{control_sequence}
+use Rattle.vt_canvas.specs.Erasing.{erase_display, rows_erased, with_grid}
+use Rattle.vt_canvas.specs.Saying.{without_out}
+use Rattle.vt_canvas.specs.Screen.{Screen, erased_byte, start_blank, with_state}
+use Rattle.vt_canvas.specs.Settings.{after_shift, save}
+use Rattle.vt_canvas.specs.declared.saved.Saved.{Saved}
+use Rattle.vt_canvas.specs.declared.screen_state.ScreenState.{ScreenState}
 use Rattle.vt_sgr.specs.PenState.{with_attributes as with_attr, with_mapping}
 use Rattle.vt_units.specs.Laws.{ControlsAreUnits, PrintablesAreCharacters, SequencesAreUnits}
 

@@ -8,7 +8,7 @@ use Rattle.vt_screen.specs.Characters.{IsNarrowTaped}
 use Rattle.vt_screen.specs.Inside.{HasPlaces}
 use Rattle.vt_screen.specs.Run.{after, start, with_outs}
 use Rattle.vt_screen.specs.Tape.{Taped, run_tape}
-use Rattle.vt_screen.specs.declared.screen_state.ScreenState.{ScreenState}
+use Rattle.vt_canvas.specs.declared.screen_state.ScreenState.{ScreenState}
 
 -- a text can make the state of each screen that bytes alone make. So only the cells of one keep it from being drawn
 abbrev pub StatesAreDrawable : Type 0

@@ -16,7 +16,7 @@ use Rattle.vt_review.specs.Announcements.{is_text, left_by, new_rows, row_told}
 use Rattle.vt_review.specs.Lines.{Told}
 use Rattle.vt_review.specs.Screens.{AreAllRows, EventChanges, OthersAreOld, row_notice}
 use Rattle.vt_screen.specs.Run.{after}
-use Rattle.vt_screen.specs.Screen.{Screen}
+use Rattle.vt_canvas.specs.Screen.{Screen}
 use Rattle.vt_screen.specs.ChangedRows.{ChangesAtMost}
 use Rattle.vt_units.specs.Run.{Reached}
 use Rattle.vt_world.specs.State.{WorldState}

@@ -5,11 +5,11 @@ use Rattle.std.specs.Prelude.{Option}
 use Rattle.std.proofs.lemmas.List.{append-nil}
 use Rattle.std.proofs.lemmas.List.Sums.{sum_by_push}
 use Rattle.vt_screen.specs.Asking.{RequestsAreFew, asks, requests}
-use Rattle.vt_screen.specs.Effect.{control, effect}
+use Rattle.vt_canvas.specs.Effect.{control, effect}
 use Rattle.vt_screen.specs.Run.{ScreenAndOuts, screen_effects, with_outs, outs_of_option, then_done}
-use Rattle.vt_screen.specs.Saying.{Effect}
-use Rattle.vt_screen.specs.Screen.{Screen, mode_of}
-use Rattle.vt_screen.specs.declared.out.Out.{Out}
+use Rattle.vt_canvas.specs.Saying.{Effect}
+use Rattle.vt_canvas.specs.Screen.{Screen, mode_of}
+use Rattle.vt_canvas.specs.declared.out.Out.{Out}
 use Rattle.vt_units.specs.Answer.{RestBefore, ByteOutcome, acts_in, answer, goes_on, outcome_of_text, outcome_by_reading, unbroken_rest, rest_before, rest_before_by, make_outcome, byte_outcome, vanishes_in}
 use Rattle.vt_units.specs.Bytes.{interrupts}
 use Rattle.vt_units.specs.Reading.{Reading, character, command, dropped, none, reading, sequence, string, string_end, unfinished, whole}

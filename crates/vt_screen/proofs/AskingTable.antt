@@ -2,11 +2,11 @@
 use Rattle.std.proofs.Common.{◌≡◌, ℕ, ◌≤◌, ◌==◌, ◌&&◌, ◌||◌, Bool, true, false, List, nat_le, cond, Some, None, refl, arith}
 use Rattle.std.specs.Prelude.{Option}
 use Rattle.vt_screen.specs.Asking.{asks}
-use Rattle.vt_screen.specs.Effect.{control, control_sequence, effect, escape, number_at, plain_escape, private_sequence}
-use Rattle.vt_screen.specs.Saying.{Effect, console_setting, device_report, lights, without_out, with_out, status_report}
-use Rattle.vt_screen.specs.Screen.{Screen}
-use Rattle.vt_screen.specs.declared.out.Out.{Out}
-use Rattle.vt_screen.specs.declared.out.Out.TheVariants.{SwitchTo}
+use Rattle.vt_canvas.specs.Effect.{control, control_sequence, effect, escape, number_at, plain_escape, private_sequence}
+use Rattle.vt_canvas.specs.Saying.{Effect, console_setting, device_report, lights, without_out, with_out, status_report}
+use Rattle.vt_canvas.specs.Screen.{Screen}
+use Rattle.vt_canvas.specs.declared.out.Out.{Out}
+use Rattle.vt_canvas.specs.declared.out.Out.TheVariants.{SwitchTo}
 use Rattle.vt_units.specs.declared.unit.Unit as units
 
 -- what is said asks once, or not at all

@@ -6,7 +6,7 @@ use Rattle.std.proofs.lemmas.Bool.Decides.{nat_tests}
 use Rattle.vt_chars.specs.Utf8.{decoding_of, within}
 use Rattle.vt_chars.specs.declared.decoded.Decoded.{Decoded}
 use Rattle.vt_chars.specs.declared.decoded.Decoded.TheVariants.{Character, Unfinished, Malformed}
-use Rattle.vt_screen.specs.Effect.{number_at}
+use Rattle.vt_canvas.specs.Effect.{number_at}
 use Rattle.vt_units.specs.Bytes.{decodes, is_body, is_control, is_csi, is_digit, is_hex, is_mid, is_swallowed, opens_string}
 use Rattle.vt_units.specs.Numbers.{Fields, number_of, params_of}
 use Rattle.vt_units.specs.Reading.{Reading, alone, begins_csi, after_prefix, bracket_text, byte_unit, character_reading, character_text, command, command_text, control_ends, control_text, dropped, escape_ends, escape_text, longest_prefix, is_empty, is_sequence, none, overlong, palette_ends, palette_text, reading, dropped_or_none, dropped_or_none_command, string_ends, string_tail, string_text, text_reading, unfinished, whole}

@@ -7,7 +7,7 @@ use Rattle.std.proofs.lemmas.List.{take_all}
 use Rattle.std.proofs.lemmas.List.Elements.{All-append, All-cons, All-nil}
 use Rattle.vt_grid.specs.Grid.{row_at}
 use Rattle.vt_screen.specs.Run.{ScreenAndOuts, after, run_from, screen_effects, with_outs}
-use Rattle.vt_screen.specs.Screen.{Screen}
+use Rattle.vt_canvas.specs.Screen.{Screen}
 use Rattle.vt_screen.specs.ChangedRows.{AreSameOutside, ChangesAtMost, IsAt, Moves, ReadsPlainly, StaysAbove, goes_down, has_next_place, is_plain_byte}
 use Rattle.vt_screen.specs.declared.place.Place.{Place}
 use Rattle.vt_units.proofs.Runs.{any_cut}

@@ -4,14 +4,14 @@ use Rattle.std.proofs.lemmas.List.Elements.{All-append, All-drop, All-take}
 use Rattle.vt_cells.specs.declared.cell.Cell.{Cell}
 use Rattle.vt_grid.specs.Grid.{cells_of_codes}
 use Rattle.vt_screen.proofs.Edits.{Each, Edits}
-use Rattle.vt_screen.specs.Cursor.{at_column, at_row, linefeed, cursor_to, newline, cursor_to_in_region, region_down, region_up, reverse_linefeed, tab}
+use Rattle.vt_canvas.specs.Cursor.{at_column, at_row, linefeed, cursor_to, newline, cursor_to_in_region, region_down, region_up, reverse_linefeed, tab}
 use Rattle.vt_cells.specs.Colours.{Rgb}
-use Rattle.vt_screen.specs.Effect.{control, control_sequence, count_of, escape, number_at, plain_escape, private_sequence}
-use Rattle.vt_screen.specs.Erasing.{above_erased, all_erased, below_erased, cells_deleted, cells_inserted, delete_characters, delete_lines, erase_characters, erase_display, erase_line, in_region, insert_characters, insert_lines, line_end_erased, line_erased, line_start_erased, rows_erased, without_pending_wrap}
-use Rattle.vt_screen.specs.Printing.{codes_drawn, lacks_room, with_gap, print, with_cells_at_cursor, with_character, after_wrap}
-use Rattle.vt_screen.specs.Saying.{Effect, console_setting, device_report, lights, without_out, status_report}
-use Rattle.vt_screen.specs.Screen.{Screen, blank_of, pen_byte}
-use Rattle.vt_screen.specs.Settings.{alignment_pattern, clear_stops, each, after_shift, after_sgr, reset, restore, save, set_stop, with_coding, with_colour, with_g0, with_g1, with_keypad, with_mode, with_private_mode, with_region, with_start_palette}
+use Rattle.vt_canvas.specs.Effect.{control, control_sequence, count_of, escape, number_at, plain_escape, private_sequence}
+use Rattle.vt_canvas.specs.Erasing.{above_erased, all_erased, below_erased, cells_deleted, cells_inserted, delete_characters, delete_lines, erase_characters, erase_display, erase_line, in_region, insert_characters, insert_lines, line_end_erased, line_erased, line_start_erased, rows_erased, without_pending_wrap}
+use Rattle.vt_canvas.specs.Printing.{codes_drawn, lacks_room, with_gap, print, with_cells_at_cursor, with_character, after_wrap}
+use Rattle.vt_canvas.specs.Saying.{Effect, console_setting, device_report, lights, without_out, status_report}
+use Rattle.vt_canvas.specs.Screen.{Screen, blank_of, pen_byte}
+use Rattle.vt_canvas.specs.Settings.{alignment_pattern, clear_stops, each, after_shift, after_sgr, reset, restore, save, set_stop, with_coding, with_colour, with_g0, with_g1, with_keypad, with_mode, with_private_mode, with_region, with_start_palette}
 
 -- each of these codes has the property
 abbrev pub HaveCodes : (ℕ → Type 0) → List ℕ → Type 0

@@ -3,13 +3,13 @@ use Rattle.std.proofs.Common.{ℕ, ◌+◌, ◌-◌, ◌==◌, ◌&&◌, Bool, t
 use Rattle.std.specs.Prelude.{IsTrue}
 use Rattle.std.proofs.lemmas.Bool.{and_from}
 use Rattle.vt_screen.proofs.Insides.{IsInside, characters_deleted, characters_erased, characters_inserted, coded, cursor_cursor_to, cursor_cursor_to_in_region, display_erased, each_keeps, either, either_done, either_done_if, first_column, first_set, invoked, keypad_set, line_feed, lines_deleted, lines_inserted, mode_set, new_line, pen_set, private_mode_set, region_set, restored, reverse_line_feed, row_erased, cursor_saved, screen_alignment_pattern, screen_reset, second_set, stop_set, stops_cleared, tabbed, to_column}
-use Rattle.vt_screen.specs.Cursor.{at_column}
-use Rattle.vt_screen.specs.Effect.{control, control_sequence, count_of, escape, number_at, plain_escape, private_sequence}
-use Rattle.vt_screen.specs.Saying.{console_setting, device_report, lights, without_out, status_report}
-use Rattle.vt_screen.specs.Screen.{Screen, start_saved}
+use Rattle.vt_canvas.specs.Cursor.{at_column}
+use Rattle.vt_canvas.specs.Effect.{control, control_sequence, count_of, escape, number_at, plain_escape, private_sequence}
+use Rattle.vt_canvas.specs.Saying.{console_setting, device_report, lights, without_out, status_report}
+use Rattle.vt_canvas.specs.Screen.{Screen, start_saved}
 use Rattle.vt_screen.specs.SavedCursor.{saved_of}
-use Rattle.vt_screen.specs.Settings.{alignment_pattern, with_mode, with_private_mode}
-use Rattle.vt_screen.specs.declared.saved.Saved.{Saved}
+use Rattle.vt_canvas.specs.Settings.{alignment_pattern, with_mode, with_private_mode}
+use Rattle.vt_canvas.specs.declared.saved.Saved.{Saved}
 
 module _ (rule : Saved → ℕ → ℕ → Type 0) where
   -- what says something

@@ -3,14 +3,14 @@ use Rattle.std.proofs.Common.{◌≡◌, ℕ, ◌+◌, ◌-◌, ◌==◌, ◌&&�
 use Rattle.std.specs.Prelude.{IsTrue}
 use Rattle.std.proofs.lemmas.Bool.{and_parts, eqb-false, false≢true, leb-true}
 use Rattle.vt_cells.specs.Colours.{Rgb}
-use Rattle.vt_screen.specs.Cursor.{at_column, at_row, first_row, linefeed, cursor_to, newline, cursor_to_in_region, region_down, region_up, reverse_linefeed, tab}
-use Rattle.vt_screen.specs.Erasing.{cells_inserted, delete_characters, delete_lines, erase_characters, erase_display, erase_line, in_region, insert_characters, insert_lines, rows_erased}
-use Rattle.vt_screen.specs.Printing.{codes_drawn, lacks_room, with_gap, print, with_cells_at_cursor, with_character, after_wrap}
-use Rattle.vt_screen.specs.Saying.{Effect}
-use Rattle.vt_screen.specs.Screen.{Screen, start_saved, with_state}
+use Rattle.vt_canvas.specs.Cursor.{at_column, at_row, first_row, linefeed, cursor_to, newline, cursor_to_in_region, region_down, region_up, reverse_linefeed, tab}
+use Rattle.vt_canvas.specs.Erasing.{cells_inserted, delete_characters, delete_lines, erase_characters, erase_display, erase_line, in_region, insert_characters, insert_lines, rows_erased}
+use Rattle.vt_canvas.specs.Printing.{codes_drawn, lacks_room, with_gap, print, with_cells_at_cursor, with_character, after_wrap}
+use Rattle.vt_canvas.specs.Saying.{Effect}
+use Rattle.vt_canvas.specs.Screen.{Screen, start_saved, with_state}
 use Rattle.vt_screen.specs.SavedCursor.{saved_of}
-use Rattle.vt_screen.specs.Settings.{alignment_pattern, clear_stops, each, after_shift, after_sgr, reset, restore, save, set_stop, with_coding, with_colour, with_g0, with_g1, with_keypad, with_mode, with_private_mode, with_region, with_start_palette}
-use Rattle.vt_screen.specs.declared.saved.Saved.{Saved}
+use Rattle.vt_canvas.specs.Settings.{alignment_pattern, clear_stops, each, after_shift, after_sgr, reset, restore, save, set_stop, with_coding, with_colour, with_g0, with_g1, with_keypad, with_mode, with_private_mode, with_region, with_start_palette}
+use Rattle.vt_canvas.specs.declared.saved.Saved.{Saved}
 
 -- the region's rows are rows of the screen, which has a column
 abbrev pub HasRegion : Screen → Type 0

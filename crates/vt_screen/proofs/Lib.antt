@@ -6,24 +6,21 @@ mod CharacterRows
 mod Controls
 mod Cuts
 mod Edits
+mod FeedRuns
 mod Feeds
 mod FollowWide
-mod Fours
+mod Fronts
 mod Halved
 mod Hearing
 pub mod InsideTable
 pub mod Insides
 mod Places
-mod Prefixes
 mod Printed
 mod PutBack
 mod Quiet
 mod RowEdits
-mod Scrolled
 mod Sequences
 mod Shown
-mod Spread
-mod Start
 mod TapeCharacters
 mod TapeHalves
 mod TapeInside

@@ -7,12 +7,12 @@ use Rattle.vt_cells.specs.declared.cell.Cell.{Cell}
 use Rattle.vt_grid.specs.Grid.{GridView, row_at, with_row}
 use Rattle.vt_grid.specs.Halves.{split_wide_at, split_wide_between}
 use Rattle.vt_screen.proofs.TextSteps.{printable_one}
-use Rattle.vt_screen.specs.Cursor.{at_column, at_row, linefeed, region_up}
-use Rattle.vt_screen.specs.Effect.{control, effect}
-use Rattle.vt_screen.specs.Erasing.{cells_inserted}
-use Rattle.vt_screen.specs.Printing.{after_wrap, lacks_room, print, with_cells_at_cursor, with_gap}
+use Rattle.vt_canvas.specs.Cursor.{at_column, at_row, linefeed, region_up}
+use Rattle.vt_canvas.specs.Effect.{control, effect}
+use Rattle.vt_canvas.specs.Erasing.{cells_inserted}
+use Rattle.vt_canvas.specs.Printing.{after_wrap, lacks_room, print, with_cells_at_cursor, with_gap}
 use Rattle.vt_screen.specs.Run.{ScreenAndOuts, screen_effects, then_done}
-use Rattle.vt_screen.specs.Screen.{Screen, mode_of}
+use Rattle.vt_canvas.specs.Screen.{Screen, mode_of}
 use Rattle.vt_screen.specs.ChangedRows.{AreSameOutside, IsAt, Moves, after_cell}
 use Rattle.vt_screen.specs.declared.place.Place.{Place}
 use Rattle.vt_units.specs.Bytes.{is_control, is_never_shown, is_printable}

@@ -6,14 +6,14 @@ use Rattle.std.proofs.lemmas.Bool.{and_parts, both_ways, not-true}
 use Rattle.vt_cells.specs.Width.{columns}
 use Rattle.vt_screen.proofs.InsideTable.{control_keeps, escape_keeps, private_keeps, sequence_keeps}
 use Rattle.vt_screen.proofs.Insides.{IsInside, coloured, colours_reset, printed_once}
-use Rattle.vt_screen.specs.Effect.{control_sequence, effect, private_sequence}
+use Rattle.vt_canvas.specs.Effect.{control_sequence, effect, private_sequence}
 use Rattle.vt_screen.specs.Inside.{CursorIsInside}
-use Rattle.vt_screen.specs.Printing.{character_of_byte}
+use Rattle.vt_canvas.specs.Printing.{character_of_byte}
 use Rattle.vt_screen.specs.SavedCursor.{RestorePutsBack, drawn_units, leaves_saved, saved_of}
-use Rattle.vt_screen.specs.Screen.{IsWhole, Screen}
-use Rattle.vt_screen.specs.Settings.{restore, save}
-use Rattle.vt_screen.specs.Cursor.{cursor_to}
-use Rattle.vt_screen.specs.declared.saved.Saved.{Saved}
+use Rattle.vt_canvas.specs.Screen.{IsWhole, Screen}
+use Rattle.vt_canvas.specs.Settings.{restore, save}
+use Rattle.vt_canvas.specs.Cursor.{cursor_to}
+use Rattle.vt_canvas.specs.declared.saved.Saved.{Saved}
 use Rattle.vt_units.specs.declared.unit.Unit as units
 
 -- what was saved, and the size, are still these

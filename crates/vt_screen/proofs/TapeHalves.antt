@@ -15,12 +15,13 @@ use Rattle.vt_grid.specs.Laws.{EditsKeepHalves}
 use Rattle.vt_screen.proofs.Edits.{Each, Edits, IsWholeCell, paired_edits}
 use Rattle.vt_screen.proofs.FollowWide.{wide-edits}
 use Rattle.vt_screen.proofs.Halved.{Draws, HasHalves, HaveCodes, coloured, colours_reset, control_keeps, escape_keeps, printed_once, private_keeps, sequence_keeps}
-use Rattle.vt_screen.specs.Effect.{control_sequence, effect, private_sequence}
+use Rattle.vt_canvas.specs.Effect.{control_sequence, effect, private_sequence}
 use Rattle.vt_screen.specs.Halves.{FollowWide, HalvesFollowWide, IsPlainTaped, TapesKeepHalves}
-use Rattle.vt_screen.specs.Printing.{character_of_byte, table_of, toggle_high_bit}
+use Rattle.vt_canvas.specs.Printing.{character_of_byte, table_of, toggle_high_bit}
 use Rattle.vt_screen.specs.Run.{ScreenAndOuts, screen_effects, with_outs, start}
-use Rattle.vt_screen.specs.Screen.{Screen, blank_of, mode_of}
-use Rattle.vt_screen.specs.Tape.{Change, Taped, byte, lost_rows, change, after_change, palette, after_tape_item, resize, resized_to, run_tape, user_map}
+use Rattle.vt_canvas.specs.Screen.{Screen, blank_of, mode_of}
+use Rattle.vt_screen.specs.Tape.{Taped, byte, change, after_tape_item, run_tape}
+use Rattle.vt_canvas.specs.Change.{Change, lost_rows, after_change, palette, resize, resized_to, user_map}
 use Rattle.vt_units.specs.Answer.{answer}
 use Rattle.vt_units.specs.Laws.{PrintsOnly, TextsSpellCharacters, ThenPrints}
 use Rattle.vt_units.specs.Run.{Reached, effect_of}

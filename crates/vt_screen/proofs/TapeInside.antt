@@ -6,13 +6,14 @@ use Rattle.std.proofs.lemmas.List.Elements.{All-head, All-tail}
 use Rattle.vt_cells.specs.Width.{columns}
 use Rattle.vt_screen.proofs.InsideTable.{control_keeps, escape_keeps, private_keeps, sequence_keeps}
 use Rattle.vt_screen.proofs.Insides.{IsInside, coloured, colours_reset, printed_once}
-use Rattle.vt_screen.specs.Effect.{control_sequence, effect, private_sequence}
+use Rattle.vt_canvas.specs.Effect.{control_sequence, effect, private_sequence}
 use Rattle.vt_screen.specs.Inside.{HasPlaces, TapesKeepCursor}
-use Rattle.vt_screen.specs.Printing.{character_of_byte}
+use Rattle.vt_canvas.specs.Printing.{character_of_byte}
 use Rattle.vt_screen.specs.Run.{ScreenAndOuts, screen_effects, with_outs, start}
-use Rattle.vt_screen.specs.Screen.{Screen, mode_of}
-use Rattle.vt_screen.specs.Tape.{Change, Taped, byte, change, after_change, palette, after_tape_item, resize, resized_to, run_tape, user_map}
-use Rattle.vt_screen.specs.declared.saved.Saved.{Saved}
+use Rattle.vt_canvas.specs.Screen.{Screen, mode_of}
+use Rattle.vt_screen.specs.Tape.{Taped, byte, change, after_tape_item, run_tape}
+use Rattle.vt_canvas.specs.Change.{Change, after_change, palette, resize, resized_to, user_map}
+use Rattle.vt_canvas.specs.declared.saved.Saved.{Saved}
 use Rattle.vt_units.specs.Answer.{answer}
 use Rattle.vt_units.specs.Run.{Reached, effect_of}
 use Rattle.vt_units.specs.declared.read.Read.{Read}

@@ -13,9 +13,9 @@ use Rattle.vt_grid.specs.Laws.{RunOfMore, RunOfNone}
 use Rattle.vt_screen.proofs.Printed.{AllPrintable, fresh_behind, printables_run}
 use Rattle.vt_screen.proofs.TextRows.{Holds, at_start, grown, holds_none, joined, printables}
 use Rattle.vt_screen.proofs.TextSteps.{at, full_turned, narrow_turned, step_below, step_here, step_scroll, turned}
-use Rattle.vt_screen.specs.Printing.{print_character, print_characters}
+use Rattle.vt_canvas.specs.Printing.{print_character, print_characters}
 use Rattle.vt_screen.specs.Run.{ScreenAndOuts}
-use Rattle.vt_screen.specs.Screen.{Screen, start_blank, start_screen}
+use Rattle.vt_canvas.specs.Screen.{Screen, start_blank, start_screen}
 use Rattle.vt_screen.specs.TextRows.{ShowsEnd, ShowsText, TextFillsRows, TextScrolls, all_cells, start_cell}
 use Rattle.vt_units.specs.Bytes.{is_printable}
 use Rattle.vt_units.specs.Laws.{PrintablesAreCharacters}

@@ -15,7 +15,7 @@ use Rattle.vt_grid.proofs.Narrow.{filled_narrow, run_narrow}
 use Rattle.vt_screen.proofs.Printed.{AllPrintable}
 use Rattle.vt_screen.proofs.TextSteps.{at}
 use Rattle.vt_grid.specs.Halves.{IsNarrow}
-use Rattle.vt_screen.specs.Screen.{start_blank, start_screen, start_state}
+use Rattle.vt_canvas.specs.Screen.{start_blank, start_screen, start_state}
 use Rattle.vt_screen.specs.TextRows.{all_cells, start_cell}
 use Rattle.vt_units.specs.Bytes.{is_printable}
 

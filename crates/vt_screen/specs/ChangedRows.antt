@@ -3,7 +3,7 @@ use Rattle.std.specs.Prelude.{◌≡◌, ◌⊎◌, ◌+◌, ◌<◌, ◌≤◌,
 use Rattle.std.specs.List.{list_any}
 use Rattle.vt_grid.specs.Grid.{row_at}
 use Rattle.vt_screen.specs.Run.{ScreenAndOuts, after, screen_effects}
-use Rattle.vt_screen.specs.Screen.{Screen, mode_of}
+use Rattle.vt_canvas.specs.Screen.{Screen, mode_of}
 use Rattle.vt_screen.specs.declared.place.Place.{Place}
 use Rattle.vt_units.specs.Bytes.{decodes, is_printable}
 use Rattle.vt_units.specs.Run.{Reached, step}

@@ -3,7 +3,8 @@ use Rattle.std.specs.Prelude.{◌≡◌, ◌<◌, ◌==◌, ℕ, Bool, true, fal
 use Rattle.vt_cells.specs.Width.{columns, is_half}
 use Rattle.vt_cells.specs.declared.cell.Cell.{Cell}
 use Rattle.vt_screen.specs.Run.{start, with_outs}
-use Rattle.vt_screen.specs.Tape.{Change, Taped, byte, change, palette, resize, run_tape, user_map}
+use Rattle.vt_screen.specs.Tape.{Taped, byte, change, run_tape}
+use Rattle.vt_canvas.specs.Change.{Change, palette, resize, user_map}
 
 -- right of each character of two columns stands its right half, with the same byte, and nowhere else stands
 -- one. It is given whether the cells follow such a character, and its byte

@@ -1,8 +1,8 @@
 ghost use Rattle.std.specs.Prelude.{◌≡◌, ◌<◌, ◌≤◌, ◌+◌, [], ◌∷◌, ◌++◌, length};
 ghost use Rattle.vt_screen.specs.Run.{outs_of_option};
 
-use crate::Out;
-use crate::side_effect::SideEffect;
+use vt_canvas::Out;
+use vt_canvas::SideEffect;
 use arrayvec::ArrayVec;
 use std::marker::Model;
 
@@ -14,7 +14,7 @@ pub struct Outs {
 
 impl Model for Outs {
     ghost use Rattle.std.specs.Prelude.{List};
-    ghost use Rattle.vt_screen.specs.declared.out.Out.{Out};
+    ghost use Rattle.vt_canvas.specs.declared.out.Out.{Out};
 
     ghost Value = { List Out };
 

@@ -3,7 +3,7 @@ ghost use Rattle.std.specs.Prelude.{◌≡◌, ◌<◌, ◌≤◌, length, take}
 ghost use Rattle.vt_screen.specs.Hearing.{HearsAll};
 ghost use Rattle.vt_screen.specs.Run.{after, outs_of_option, outs_of_run};
 
-use crate::side_effect::SideEffect;
+use vt_canvas::SideEffect;
 use crate::{Emu, Listener, any_cut};
 
 impl Emu {

@@ -2,7 +2,7 @@
 ghost use Rattle.std.specs.Prelude.{◌≡◌, ◌≤◌, None, length, take};
 ghost use Rattle.vt_screen.specs.Run.{IsQuietBefore, after, outs_of_option, outs_of_run};
 
-use crate::side_effect::SideEffect;
+use vt_canvas::SideEffect;
 use crate::{Emu, any_cut};
 
 impl Emu {

@@ -3,7 +3,7 @@ use Rattle.std.specs.Prelude.{◌≡◌, ◌↔◌, ℕ, Bool, IsTrue, ◌<◌, 
 use Rattle.vt_io.specs.Faults.{Rose}
 use Rattle.vt_io.specs.Stream.{Stream}
 use Rattle.vt_screen.specs.Run.{after, start}
-use Rattle.vt_screen.specs.Screen.{Screen}
+use Rattle.vt_canvas.specs.Screen.{Screen}
 use Rattle.vt_tool.specs.Commands.Screen.{screen_limit}
 use Rattle.vt_tool.specs.Input.{ReadsAll, Takes}
 use Rattle.vt_tool.specs.Run.{Holds}

@@ -13,8 +13,8 @@ use Rattle.vt_events.specs.declared.event.Event.TheVariants as event
 use Rattle.vt_procs.specs.Callers.{is_opened}
 use Rattle.vt_procs.specs.declared.proc_start.ProcStart.{ProcStart}
 use Rattle.vt_procs.specs.declared.ticket.Ticket.TheVariants.{Active, Input}
-use Rattle.vt_screen.specs.Tape.{palette, resize, user_map}
-use Rattle.vt_screen.specs.declared.out.Out.{Out}
+use Rattle.vt_canvas.specs.Change.{palette, resize, user_map}
+use Rattle.vt_canvas.specs.declared.out.Out.{Out}
 use Rattle.vt_switch.specs.Acts.{SwitchAct, Allocate, Release, Request, SetMode, Free, after}
 use Rattle.vt_switch.specs.Calls.{free, without_console, is_held, names}
 use Rattle.vt_switch.specs.Display.{Display, fresh, or_fresh, owner_of}

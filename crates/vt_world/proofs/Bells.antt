@@ -3,8 +3,8 @@ use Rattle.std.proofs.Common.{◌≡◌, ℕ, ◌+◌, min, List, ◌++◌, sym,
 use Rattle.std.specs.Prelude.{count_by}
 use Rattle.std.proofs.lemmas.List.Sums.{sum_by-append}
 use Rattle.vt_screen.specs.Run.{AnyCut, after, outs_of_run}
-use Rattle.vt_screen.specs.Screen.{Screen}
-use Rattle.vt_screen.specs.declared.out.Out.{Out}
+use Rattle.vt_canvas.specs.Screen.{Screen}
+use Rattle.vt_canvas.specs.declared.out.Out.{Out}
 use Rattle.vt_units.specs.Run.{Reached}
 use Rattle.vt_world.specs.Terminals.{TerminalState, is_bell, bell_count_after, written_on}
 

@@ -8,8 +8,8 @@ use Rattle.key_machine.specs.declared.key_out.KeyOut.TheVariants as heard
 use Rattle.scan_codes.specs.Scan.{Scan, event_after}
 use Rattle.scan_codes.specs.declared.key_event.KeyEvent.{KeyEvent}
 use Rattle.vt_procs.specs.declared.ticket.Ticket.{Ticket}
-use Rattle.vt_screen.specs.declared.out.Out.{Out}
-use Rattle.vt_screen.specs.declared.out.Out.TheVariants as outs
+use Rattle.vt_canvas.specs.declared.out.Out.{Out}
+use Rattle.vt_canvas.specs.declared.out.Out.TheVariants as outs
 use Rattle.vt_switch.specs.Acts.{SwitchAct, Allocate, End, Free, Release, SetKd, SetMode}
 use Rattle.vt_world.specs.Deeds.{Deed, Alters, Asks, By, Clears, Own, OwnDeed, Puts, Raises, Starts, Writes}
 use Rattle.vt_world.specs.Inputs.{input_at}

@@ -1,9 +1,10 @@
 -- Earlier side effects change nothing of the screen that a tape gives.
 use Rattle.std.proofs.Common.{◌≡◌, ℕ, Bool, true, false, cond, List, [], ◌∷◌, ◌++◌, map, refl, sym, ap, ◌∙◌}
 use Rattle.vt_screen.specs.Run.{ScreenAndOuts, after, screen_effects, with_outs, start}
-use Rattle.vt_screen.specs.Screen.{Screen, mode_of}
-use Rattle.vt_screen.specs.Tape.{AnyTapeCut, Change, StretchesRun, Taped, byte, change, after_change, run_tape, with_change}
-use Rattle.vt_screen.specs.declared.out.Out.{Out}
+use Rattle.vt_canvas.specs.Screen.{Screen, mode_of}
+use Rattle.vt_screen.specs.Tape.{AnyTapeCut, StretchesRun, Taped, byte, change, run_tape, with_change}
+use Rattle.vt_canvas.specs.Change.{Change, after_change}
+use Rattle.vt_canvas.specs.declared.out.Out.{Out}
 use Rattle.vt_units.specs.Answer.{answer, rest_after}
 use Rattle.vt_units.specs.Rest.{Rest}
 use Rattle.vt_units.specs.Run.{Reached, effect_of, effects_of, make_reached}

@@ -11,8 +11,9 @@ use Rattle.vt_events.specs.declared.entry.Entry.{Entry}
 use Rattle.vt_events.specs.declared.event.Event.{Event}
 use Rattle.vt_procs.specs.declared.proc_start.ProcStart.{ProcStart}
 use Rattle.vt_screen.specs.Run.{after, start}
-use Rattle.vt_screen.specs.Screen.{Screen}
-use Rattle.vt_screen.specs.Tape.{AnyTapeCut, Change, StretchesRun, byte, change, with_change}
+use Rattle.vt_canvas.specs.Screen.{Screen}
+use Rattle.vt_screen.specs.Tape.{AnyTapeCut, StretchesRun, byte, change, with_change}
+use Rattle.vt_canvas.specs.Change.{Change}
 use Rattle.vt_switch.specs.Acts.{SwitchAct, Request}
 use Rattle.vt_switch.specs.Display.{Display, fresh, is_allocated}
 use Rattle.vt_switch.specs.Moments.{core_after, marks, raise}

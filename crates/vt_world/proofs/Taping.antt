@@ -10,8 +10,9 @@ use Rattle.vt_events.specs.declared.event.Event.TheVariants as event
 use Rattle.vt_events.specs.declared.reply.Reply.{Reply}
 use Rattle.vt_events.specs.declared.reply.Reply.TheVariants as reply
 use Rattle.vt_procs.specs.declared.ticket.Ticket.TheVariants.{Active, Input}
-use Rattle.vt_screen.specs.Tape.{Taped, byte, change, palette, resize, user_map}
-use Rattle.vt_screen.specs.declared.out.Out.{Out}
+use Rattle.vt_screen.specs.Tape.{Taped, byte, change}
+use Rattle.vt_canvas.specs.Change.{palette, resize, user_map}
+use Rattle.vt_canvas.specs.declared.out.Out.{Out}
 use Rattle.vt_world.proofs.Quiet.{are_quiet, is_quiet_act, is_quiet_own, outs_quiet, scan_quiet, sent_quiet, wait_quiet}
 use Rattle.vt_world.specs.Deeds.{Deed, Alters, Asks, By, Clears, Own, OwnDeed, Starts, Writes}
 use Rattle.vt_world.specs.Events.{row}

@@ -14,8 +14,8 @@ use Rattle.vt_events.specs.declared.event.Event.{Event}
 use Rattle.vt_events.specs.declared.event.Event.TheVariants as event
 use Rattle.vt_procs.specs.declared.ticket.Ticket.{Ticket}
 use Rattle.vt_procs.specs.declared.ticket.Ticket.TheVariants.{Active, Input}
-use Rattle.vt_screen.specs.declared.out.Out.{Out}
-use Rattle.vt_screen.specs.declared.out.Out.TheVariants as outs
+use Rattle.vt_canvas.specs.declared.out.Out.{Out}
+use Rattle.vt_canvas.specs.declared.out.Out.TheVariants as outs
 use Rattle.vt_switch.specs.Acts.{End, Request, SetKd, SwitchAct}
 use Rattle.vt_switch.specs.Moments.{core_after, marks, raise}
 use Rattle.vt_switch.specs.declared.mark.Mark.{Mark}

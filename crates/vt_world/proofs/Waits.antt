@@ -16,8 +16,8 @@ use Rattle.vt_events.specs.declared.reply.Reply.TheVariants as reply
 use Rattle.vt_procs.specs.Tickets.{after_input_on}
 use Rattle.vt_procs.specs.declared.ticket.Ticket.{Ticket}
 use Rattle.vt_procs.specs.declared.ticket.Ticket.TheVariants.{Active, AnySignal, Input}
-use Rattle.vt_screen.specs.declared.out.Out.{Out}
-use Rattle.vt_screen.specs.declared.out.Out.TheVariants as outs
+use Rattle.vt_canvas.specs.declared.out.Out.{Out}
+use Rattle.vt_canvas.specs.declared.out.Out.TheVariants as outs
 use Rattle.vt_switch.specs.Acts.{End, SetKd, SwitchAct}
 use Rattle.vt_switch.specs.Moments.{core_after, marks, raise}
 use Rattle.vt_switch.specs.declared.mark.Mark.{Mark}

@@ -6,8 +6,8 @@ use Rattle.std.specs.List.{flat_map}
 use Rattle.std.specs.Prelude.{Ok, option_map}
 use Rattle.vt_screen.specs.Asking.{RequestsAreFew, asks, requests}
 use Rattle.vt_screen.specs.Run.{AnyCut}
-use Rattle.vt_screen.specs.declared.out.Out.{Out}
-use Rattle.vt_screen.specs.declared.out.Out.TheVariants as outs
+use Rattle.vt_canvas.specs.declared.out.Out.{Out}
+use Rattle.vt_canvas.specs.declared.out.Out.TheVariants as outs
 use Rattle.vt_world.specs.Rows.{out_deeds, write_deeds}
 use Rattle.vt_world.specs.Deeds.{Asks, Deed, Lights, Own, Puts, Writes, apply_deeds, apply_deed, after_request}
 use Rattle.vt_switch.specs.Acts.{Request}

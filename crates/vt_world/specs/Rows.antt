@@ -13,9 +13,9 @@ use Rattle.vt_procs.specs.Callers.{is_opened}
 use Rattle.vt_procs.specs.declared.ticket.Ticket.{Ticket}
 use Rattle.vt_procs.specs.declared.waiting.Waiting.{Waiting}
 use Rattle.vt_procs.specs.declared.waiting.Waiting.TheVariants as waiting
-use Rattle.vt_screen.specs.Screen.{Screen}
-use Rattle.vt_screen.specs.declared.out.Out.{Out}
-use Rattle.vt_screen.specs.declared.out.Out.TheVariants as outs
+use Rattle.vt_canvas.specs.Screen.{Screen}
+use Rattle.vt_canvas.specs.declared.out.Out.{Out}
+use Rattle.vt_canvas.specs.declared.out.Out.TheVariants as outs
 use Rattle.vt_switch.specs.Acts.{Allocate, Free}
 use Rattle.vt_switch.specs.Display.{Display, is_allocated}
 use Rattle.vt_world.specs.Deeds.{Deed, Asks, By, Clears, Lights, Own, Puts, Starts, Takes, Waits, Writes}

@@ -2,10 +2,11 @@
 use Rattle.std.specs.Prelude.{ℕ, Bool, true, false, ◌+◌, min, count_by, List, [], Option, Some, None, option_map, slice_index_or, slice_set}
 use Rattle.key_machine.specs.declared.key_modes.KeyModes.{KeyModes}
 use Rattle.vt_screen.specs.Run.{after, outs_of_run, start}
-use Rattle.vt_screen.specs.Tape.{Change, with_change}
-use Rattle.vt_screen.specs.Screen.{Screen}
-use Rattle.vt_screen.specs.declared.out.Out.{Out}
-use Rattle.vt_screen.specs.declared.out.Out.TheVariants as outs
+use Rattle.vt_screen.specs.Tape.{with_change}
+use Rattle.vt_canvas.specs.Change.{Change}
+use Rattle.vt_canvas.specs.Screen.{Screen}
+use Rattle.vt_canvas.specs.declared.out.Out.{Out}
+use Rattle.vt_canvas.specs.declared.out.Out.TheVariants as outs
 use Rattle.vt_units.specs.Run.{Reached}
 
 -- a console's screen with the rest of its text, and its count of BELs

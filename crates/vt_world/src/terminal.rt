@@ -1,6 +1,6 @@
 ghost use Rattle.std.specs.Prelude.{◌≡◌, ◌≤◌, ◌<◌, length, take};
 ghost use Rattle.vt_screen.specs.Run.{outs_of_option, outs_of_run};
-ghost use Rattle.vt_screen.specs.Tape.{palette, resize, user_map};
+ghost use Rattle.vt_canvas.specs.Change.{palette, resize, user_map};
 ghost use Rattle.vt_world.specs.Terminals.{altered_by, new_terminal, written_on};
 
 use std::marker::Model;

@@ -1,7 +1,7 @@
 ghost use Rattle.std.specs.Prelude.{◌≡◌, ◌≤◌, ◌<◌, Some, None, IfOk, length, take, is_some, option_copied, if◌then◌else◌};
 ghost use Rattle.vt_base.specs.ConsoleSet.{at_each};
 ghost use Rattle.vt_screen.specs.Run.{outs_of_option};
-ghost use Rattle.vt_screen.specs.Tape.{palette, resize, user_map};
+ghost use Rattle.vt_canvas.specs.Change.{palette, resize, user_map};
 ghost use Rattle.vt_world.specs.Lent.{grid_after_resize};
 ghost use Rattle.vt_world.specs.Terminals.{after_screen_change, new_terminal, said_of, terminal_at, with_start, without_terminal, after_write};
 

@@ -1,6 +1,6 @@
 //! The rows that a text may change.
 ghost use Rattle.std.specs.Prelude.{◌≡◌, ◌↔◌, [], true, false, IfSome, IsSome};
-ghost use Rattle.vt_screen.specs.Screen.{mode_of};
+ghost use Rattle.vt_canvas.specs.Screen.{mode_of};
 ghost use Rattle.vt_screen.specs.ChangedRows.{AreCursorRows, ChangesAtMost, ReadsPlainly, StaysAbove};
 ghost use Rattle.vt_units.specs.Bytes.{decodes};
 

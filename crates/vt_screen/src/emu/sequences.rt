@@ -3,7 +3,7 @@ ghost use Rattle.std.specs.Prelude.{◌≡◌};
 ghost use Rattle.vt_screen.specs.Run.{HasRun};
 
 use crate::Emu;
-use crate::side_effect::SideEffect;
+use vt_canvas::SideEffect;
 use vt_units::{Params, WholeSequence, sequences_are_units};
 
 impl Emu {
