@@ -9,7 +9,7 @@ use Rattle.key_syms.specs.Act.{Act, is_action}
 use Rattle.key_syms.specs.Kinds.{HOLE}
 use Rattle.key_syms.specs.declared.pair.Pair.{Pair}
 use Rattle.key_tables.specs.Tables.{IsMap, Tables, entry_of, exists_in, func_of, hole, map_of}
-use Rattle.key_text.specs.KeymapLine.{Telling, KeymapLine, compose, one, string}
+use Rattle.key_text.specs.KeymapLine.{LineMeaning, KeymapLine, compose, one, string}
 use Rattle.key_compile.specs.Entries.{entry_in, gives, is_alt, line_entry, meta_over}
 use Rattle.key_compile.specs.Pairs.{pairs_by, pairs_in}
 use Rattle.key_compile.specs.Strings.{last_text, string_in, text_by}
@@ -21,27 +21,27 @@ use Rattle.key_dump.proofs.DumpTables.{AreDumped, any_dumped, items_any, tables_
 use Rattle.key_dump.proofs.Tellings.{last_action_last, last_append, last_at, last_by, no_last, no_pairs, or_none, pairs_tellings, tellings_of, text_last}
 
 -- lines of entries that give nothing
-entry_last : {X : Type 0} (f : Telling → Option X) (t c : ℕ) (a : Act) → f (one t c a) ≡ None → last_by f (entry_tellings t c a) ≡ None
+entry_last : {X : Type 0} (f : LineMeaning → Option X) (t c : ℕ) (a : Act) → f (one t c a) ≡ None → last_by f (entry_tellings t c a) ≡ None
 entry_last f t c a e = search (rules, last_by)
 
-table_last : {X : Type 0} (f : Telling → Option X) (t : ℕ) (m : Option (List Act)) → ((c : ℕ) (a : Act) → f (one t c a) ≡ None) → last_by f (table_tellings t m) ≡ None
+table_last : {X : Type 0} (f : LineMeaning → Option X) (t : ℕ) (m : Option (List Act)) → ((c : ℕ) (a : Act) → f (one t c a) ≡ None) → last_by f (table_tellings t m) ≡ None
 table_last f t None each = refl
 table_last f t (Some map) each =
     no_last f (entry_tellings t) map hole (λ c h. entry_last f t c (get_or map c hole) (each c (get_or map c hole)))
 
-strings_last : {X : Type 0} (f : Telling → Option X) (funcs : List (List ℕ)) → ((i : ℕ) (text : List ℕ) → f (string i text) ≡ None) → last_by f (rows_from string_tellings 0 funcs) ≡ None
+strings_last : {X : Type 0} (f : LineMeaning → Option X) (funcs : List (List ℕ)) → ((i : ℕ) (text : List ℕ) → f (string i text) ≡ None) → last_by f (rows_from string_tellings 0 funcs) ≡ None
 strings_last {X = X} f funcs each = no_last f string_tellings funcs [] (λ i h. by_text i (get_or funcs i []))
   where
     by_text : (i : ℕ) (text : List ℕ) → last_by f (string_tellings i text) ≡ None
     by_text i [] = refl
     by_text i (b ∷ bs) = each i (b ∷ bs)
 
-pairs_last : {X : Type 0} (f : Telling → Option X) (pairs : List Pair) → ((pair : Pair) → f (compose pair) ≡ None) → last_by f (map compose pairs) ≡ None
+pairs_last : {X : Type 0} (f : LineMeaning → Option X) (pairs : List Pair) → ((pair : Pair) → f (compose pair) ≡ None) → last_by f (map compose pairs) ≡ None
 pairs_last f [] each = refl
 pairs_last f (pair ∷ pairs) each =
     ap (λ a. option_or a (f (compose pair))) (pairs_last f pairs each) ∙ each pair
 
-last_three : {X : Type 0} (f : Telling → Option X) (first : Telling) (us vs ws : List Telling) → f first ≡ None → last_by f ws ≡ None → last_by f (first ∷ (us ++ (vs ++ ws))) ≡ option_or (last_by f vs) (last_by f us)
+last_three : {X : Type 0} (f : LineMeaning → Option X) (first : LineMeaning) (us vs ws : List LineMeaning) → f first ≡ None → last_by f ws ≡ None → last_by f (first ∷ (us ++ (vs ++ ws))) ≡ option_or (last_by f vs) (last_by f us)
 last_three f first us vs ws p q =
     grind (arith, last_by, or_none, last_append)
 
@@ -49,9 +49,9 @@ gives_other : (union : List ℕ) (t c u d : ℕ) (a : Act) → (t == u && c == d
 gives_other union t c u d a e = ap (λ b. cond b (Some a) None) e
 
 -- what the lines give an entry
-decided_is : (union : List ℕ) (lines : List KeymapLine) (tables : Tables) (t c : ℕ) (map : List Act) → AreDumped lines tables → t < 256 → c < 256 → map_of tables t ≡ Some map → length map ≡ 256 → last_by (λ telling. gives union telling t c) (tellings_of lines) ≡ last_by (λ telling. gives union telling t c) (entry_tellings t c (get_or map c hole))
+decided_is : (union : List ℕ) (lines : List KeymapLine) (tables : Tables) (t c : ℕ) (map : List Act) → AreDumped lines tables → t < 256 → c < 256 → map_of tables t ≡ Some map → length map ≡ 256 → last_by (λ meaning. gives union meaning t c) (tellings_of lines) ≡ last_by (λ meaning. gives union meaning t c) (entry_tellings t c (get_or map c hole))
 decided_is union lines tables t c map are low small e full =
-    let f : Telling → Option Act = λ telling. gives union telling t c in
+    let f : LineMeaning → Option Act = λ meaning. gives union meaning t c in
     let entries = rows_from table_tellings 0 tables.maps in
     let strings = rows_from string_tellings 0 tables.funcs in
     ap (last_by f) are.tell
@@ -73,15 +73,15 @@ hole_is : (a : Act) → IsTrue (is_action a.kind a.value) → (a.kind == HOLE) �
 hole_is a action e =
     grind (arith, eqb-true, hole_value)
 
-entry_back : (union : List ℕ) (t c : ℕ) (a : Act) → IsTrue (is_action a.kind a.value) → unwrap_or (last_by (λ telling. gives union telling t c) (entry_tellings t c a)) hole ≡ a
+entry_back : (union : List ℕ) (t c : ℕ) (a : Act) → IsTrue (is_action a.kind a.value) → unwrap_or (last_by (λ meaning. gives union meaning t c) (entry_tellings t c a)) hole ≡ a
 entry_back union t c a action = by_test (a.kind == HOLE) refl
   where
-    by_test : (b : Bool) → (a.kind == HOLE) ≡ b → unwrap_or (last_by (λ telling. gives union telling t c) (cond b [] (one t c a ∷ []))) hole ≡ a
+    by_test : (b : Bool) → (a.kind == HOLE) ≡ b → unwrap_or (last_by (λ meaning. gives union meaning t c) (cond b [] (one t c a ∷ []))) hole ≡ a
     by_test true e = sym (hole_is a action e)
     by_test false e =
         ap (λ b. unwrap_or (cond b (Some a) None) hole) (and_from (t == t) (c == c) (eq-eqb t t refl) (eq-eqb c c refl))
 
-no_alt : (lines : List KeymapLine) (tables : Tables) → AreDumped lines tables → list_any (λ l. is_alt l.telling) lines ≡ false
+no_alt : (lines : List KeymapLine) (tables : Tables) → AreDumped lines tables → list_any (λ l. is_alt l.meaning) lines ≡ false
 no_alt lines tables are =
     any_dumped is_alt lines tables are
     ∙ items_any is_alt tables (tables_any is_alt tables (λ t c a. refl)) (λ i text. refl) (λ pair. refl)
@@ -99,9 +99,9 @@ entries_are lines tables t c are low small =
     grind (arith, is_some, entry_is)
 
 -- the string that the lines give a function key
-texts_are : (lines : List KeymapLine) (tables : Tables) (i : ℕ) → AreDumped lines tables → last_text lines i ≡ last_by (λ telling. text_by telling i) (rows_from string_tellings 0 tables.funcs)
+texts_are : (lines : List KeymapLine) (tables : Tables) (i : ℕ) → AreDumped lines tables → last_text lines i ≡ last_by (λ meaning. text_by meaning i) (rows_from string_tellings 0 tables.funcs)
 texts_are lines tables i are =
-    let f : Telling → Option (List ℕ) = λ telling. text_by telling i in
+    let f : LineMeaning → Option (List ℕ) = λ meaning. text_by meaning i in
     let entries = rows_from table_tellings 0 tables.maps in
     let strings = rows_from string_tellings 0 tables.funcs in
     text_last i lines
@@ -110,11 +110,11 @@ texts_are lines tables i are =
     ∙ ap (option_or (last_by f strings)) (no_last f table_tellings tables.maps None (λ t h. table_last f t (get_or tables.maps t None) (λ c a. refl)))
     ∙ or_none (last_by f strings)
 
-text_other : (i j : ℕ) (text : List ℕ) → i ≢ j → last_by (λ telling. text_by telling i) (string_tellings j text) ≡ None
+text_other : (i j : ℕ) (text : List ℕ) → i ≢ j → last_by (λ meaning. text_by meaning i) (string_tellings j text) ≡ None
 text_other i j [] other = refl
 text_other i j (b ∷ bs) other = ap (λ t. cond t (Some (b ∷ bs)) None) (ne_eqb i j other)
 
-text_own : (i : ℕ) (text : List ℕ) → unwrap_or (last_by (λ telling. text_by telling i) (string_tellings i text)) [] ≡ text
+text_own : (i : ℕ) (text : List ℕ) → unwrap_or (last_by (λ meaning. text_by meaning i) (string_tellings i text)) [] ≡ text
 text_own i [] = refl
 text_own i (b ∷ bs) = ap (λ t. unwrap_or (cond t (Some (b ∷ bs)) None) []) (eq-eqb i i refl)
 
@@ -122,13 +122,13 @@ pub strings_are : (lines : List KeymapLine) (tables : Tables) (i : ℕ) → AreD
 strings_are lines tables i are = elim (cases_lt i (length tables.funcs)) [
   | inl low ↦
       sym (ap (λ a. unwrap_or a []) (texts_are lines tables i are
-      ∙ last_at (λ telling. text_by telling i) string_tellings tables.funcs [] i low
+      ∙ last_at (λ meaning. text_by meaning i) string_tellings tables.funcs [] i low
       (λ j h other. text_other i j (get_or tables.funcs j []) (λ (same : i ≡ j). other (sym same))))
       ∙ text_own i (get_or tables.funcs i []))
   | inr past ↦
       get_or-eq_default tables.funcs [] past
       ∙ sym (ap (λ a. unwrap_or a []) (texts_are lines tables i are
-      ∙ no_last (λ telling. text_by telling i) string_tellings tables.funcs []
+      ∙ no_last (λ meaning. text_by meaning i) string_tellings tables.funcs []
       (λ j h. text_other i j (get_or tables.funcs j []) (λ (same : i ≡ j). omega arith))))
 ]
 

@@ -10,7 +10,7 @@ use Rattle.key_syms.specs.Laws.{CodePointsAreTheirOwn, NamesAreTheirOwn}
 use Rattle.key_syms.specs.declared.pair.Pair.{Pair}
 use Rattle.key_tables.specs.Tables.{IsMap, IsWhole, Tables, exists_in, hole}
 use Rattle.key_text.specs.Lines.{table_marks}
-use Rattle.key_text.specs.KeymapLine.{Telling, compose, is_real, keymaps, one, string}
+use Rattle.key_text.specs.KeymapLine.{LineMeaning, compose, is_real, keymaps, one, string}
 use Rattle.key_compile.specs.Dumpable.{is_dumpable}
 use Rattle.key_dump.specs.Dump.{dump_rows, entry_rows, pair_words, rows_from, string_rows, table_numbers, table_rows}
 use Rattle.key_dump.proofs.EntryLines.{entry_says}
@@ -22,29 +22,29 @@ use Rattle.key_dump.proofs.Tellings.{rows_say}
 use Rattle.key_dump.proofs.TextRows.{AllSay, Says, all_say_append}
 
 -- what the line of an entry tells, where it isn't a hole
-abbrev pub entry_tellings : ℕ → ℕ → Act → List Telling
+abbrev pub entry_tellings : ℕ → ℕ → Act → List LineMeaning
 entry_tellings t c a = cond (a.kind == HOLE) [] (one t c a ∷ [])
 
-abbrev pub table_tellings : ℕ → Option (List Act) → List Telling
+abbrev pub table_tellings : ℕ → Option (List Act) → List LineMeaning
 table_tellings t None = []
 table_tellings t (Some map) = rows_from (entry_tellings t) 0 map
 
 -- what the line of a string tells, where it isn't empty
-abbrev pub string_tellings : ℕ → List ℕ → List Telling
+abbrev pub string_tellings : ℕ → List ℕ → List LineMeaning
 string_tellings i [] = []
 string_tellings i (b ∷ bs) = string i (b ∷ bs) ∷ []
 
-abbrev pub item_tellings : Tables → List Telling
+abbrev pub item_tellings : Tables → List LineMeaning
 item_tellings tables =
     rows_from table_tellings 0 tables.maps
     ++ (rows_from string_tellings 0 tables.funcs ++ map compose tables.pairs)
 
 -- what the line of the tables that exist tells
-abbrev pub tables_telling : Tables → Telling
+abbrev pub tables_telling : Tables → LineMeaning
 tables_telling tables = keymaps (table_marks (map only (table_numbers tables)))
 
 -- what the lines of a dump tell
-abbrev pub dump_tellings : Tables → List Telling
+abbrev pub dump_tellings : Tables → List LineMeaning
 dump_tellings tables = tables_telling tables ∷ item_tellings tables
 
 entry_say : NamesAreTheirOwn → (t c : ℕ) (a : Act) → t < 256 → c < 256 → IsTrue (is_action a.kind a.value) → (c ≡ 0 → a ≡ hole) → AllSay (entry_rows t c a) (entry_tellings t c a)

@@ -8,7 +8,7 @@ use Rattle.key_syms.specs.Act.{Act}
 use Rattle.key_syms.specs.declared.pair.Pair.{Pair}
 use Rattle.key_tables.specs.Tables.{IsWhole, Tables, exists_in, hole}
 use Rattle.key_text.specs.Lines.{covers, table_marks}
-use Rattle.key_text.specs.KeymapLine.{Telling, KeymapLine, compose, one, string}
+use Rattle.key_text.specs.KeymapLine.{LineMeaning, KeymapLine, compose, one, string}
 use Rattle.key_compile.specs.Union.{in_union, is_declared, is_keymaps, is_usual_table, modifies_table, names_table}
 use Rattle.key_dump.specs.Dump.{rows_from, table_numbers}
 use Rattle.key_dump.proofs.DumpSays.{dump_tellings, entry_tellings, item_tellings, string_tellings, table_tellings}
@@ -16,35 +16,35 @@ use Rattle.key_dump.proofs.KeymapsLine.{only}
 use Rattle.key_dump.proofs.Tellings.{any_tellings, no_any, tellings_of}
 
 -- a line of an entry, where it is there
-entry_any : (test : Telling → Bool) (t c : ℕ) (a : Act) → test (one t c a) ≡ false → list_any test (entry_tellings t c a) ≡ false
+entry_any : (test : LineMeaning → Bool) (t c : ℕ) (a : Act) → test (one t c a) ≡ false → list_any test (entry_tellings t c a) ≡ false
 entry_any test t c a e = search (rules, or_from)
 
-table_any : (test : Telling → Bool) (t : ℕ) (m : Option (List Act)) → ((c : ℕ) (a : Act) → test (one t c a) ≡ false) → list_any test (table_tellings t m) ≡ false
+table_any : (test : LineMeaning → Bool) (t : ℕ) (m : Option (List Act)) → ((c : ℕ) (a : Act) → test (one t c a) ≡ false) → list_any test (table_tellings t m) ≡ false
 table_any test t None each = refl
 table_any test t (Some map) each =
     no_any test (entry_tellings t) map hole (λ c h. entry_any test t c (get_or map c hole) (each c (get_or map c hole)))
 
-pub strings_any : (test : Telling → Bool) (funcs : List (List ℕ)) → ((i : ℕ) (text : List ℕ) → test (string i text) ≡ false) → list_any test (rows_from string_tellings 0 funcs) ≡ false
+pub strings_any : (test : LineMeaning → Bool) (funcs : List (List ℕ)) → ((i : ℕ) (text : List ℕ) → test (string i text) ≡ false) → list_any test (rows_from string_tellings 0 funcs) ≡ false
 strings_any test funcs each = no_any test string_tellings funcs [] (λ i h. by_text i (get_or funcs i []))
   where
     by_text : (i : ℕ) (text : List ℕ) → list_any test (string_tellings i text) ≡ false
     by_text i [] = refl
     by_text i (b ∷ bs) = or_from (test (string i (b ∷ bs))) false (each i (b ∷ bs)) refl
 
-pairs_any : (test : Telling → Bool) (pairs : List Pair) → ((pair : Pair) → test (compose pair) ≡ false) → list_any test (map compose pairs) ≡ false
+pairs_any : (test : LineMeaning → Bool) (pairs : List Pair) → ((pair : Pair) → test (compose pair) ≡ false) → list_any test (map compose pairs) ≡ false
 pairs_any test [] each = refl
 pairs_any test (pair ∷ pairs) each = or_from (test (compose pair)) (list_any test (map compose pairs)) (each pair) (pairs_any test pairs each)
 
 -- three parts of what is told
-any_three : (test : Telling → Bool) (us vs ws : List Telling) → list_any test us ≡ false → list_any test vs ≡ false → list_any test ws ≡ false → list_any test (us ++ (vs ++ ws)) ≡ false
+any_three : (test : LineMeaning → Bool) (us vs ws : List LineMeaning) → list_any test us ≡ false → list_any test vs ≡ false → list_any test ws ≡ false → list_any test (us ++ (vs ++ ws)) ≡ false
 any_three test us vs ws p q r =
     grind (arith, list_any-append, or_from)
 
-pub items_any : (test : Telling → Bool) (tables : Tables) → list_any test (rows_from table_tellings 0 tables.maps) ≡ false → ((i : ℕ) (text : List ℕ) → test (string i text) ≡ false) → ((pair : Pair) → test (compose pair) ≡ false) → list_any test (item_tellings tables) ≡ false
+pub items_any : (test : LineMeaning → Bool) (tables : Tables) → list_any test (rows_from table_tellings 0 tables.maps) ≡ false → ((i : ℕ) (text : List ℕ) → test (string i text) ≡ false) → ((pair : Pair) → test (compose pair) ≡ false) → list_any test (item_tellings tables) ≡ false
 items_any test tables entries strings pairs =
     grind (arith, any_three, table_tellings, string_tellings, strings_any, pairs_any)
 
-pub tables_any : (test : Telling → Bool) (tables : Tables) → ((t c : ℕ) (a : Act) → test (one t c a) ≡ false) → list_any test (rows_from table_tellings 0 tables.maps) ≡ false
+pub tables_any : (test : LineMeaning → Bool) (tables : Tables) → ((t c : ℕ) (a : Act) → test (one t c a) ≡ false) → list_any test (rows_from table_tellings 0 tables.maps) ≡ false
 tables_any test tables each =
     no_any test table_tellings tables.maps None (λ t h. table_any test t (get_or tables.maps t None) (each t))
 
@@ -111,14 +111,14 @@ pub record AreDumped (lines : List KeymapLine) (tables : Tables) : Type 0 where
   pub tell : tellings_of lines ≡ dump_tellings tables
   pub whole : IsWhole tables
 
-pub any_dumped : (test : Telling → Bool) (lines : List KeymapLine) (tables : Tables) → AreDumped lines tables → list_any (λ l. test l.telling) lines ≡ list_any test (dump_tellings tables)
+pub any_dumped : (test : LineMeaning → Bool) (lines : List KeymapLine) (tables : Tables) → AreDumped lines tables → list_any (λ l. test l.meaning) lines ≡ list_any test (dump_tellings tables)
 any_dumped test lines tables are = any_tellings test lines ∙ ap (list_any test) are.tell
 
 pub declared_is : (lines : List KeymapLine) (tables : Tables) (t : ℕ) → AreDumped lines tables → t < 256 → is_declared lines t ≡ exists_in tables t
 unfolding is_declared in_union
 declared_is lines tables t are h =
-    ap (λ b. cond b (list_any (λ (l : KeymapLine). names_table t l.telling) lines) (is_usual_table t) || list_any (λ (l : KeymapLine). modifies_table t l.telling) lines) (any_dumped is_keymaps lines tables are)
-    ∙ ap (λ b. b || list_any (λ (l : KeymapLine). modifies_table t l.telling) lines) named
+    ap (λ b. cond b (list_any (λ (l : KeymapLine). names_table t l.meaning) lines) (is_usual_table t) || list_any (λ (l : KeymapLine). modifies_table t l.meaning) lines) (any_dumped is_keymaps lines tables are)
+    ∙ ap (λ b. b || list_any (λ (l : KeymapLine). modifies_table t l.meaning) lines) named
     ∙ ap (λ b. exists_in tables t || b) (any_dumped (modifies_table t) lines tables are)
     ∙ by_test (exists_in tables t) refl
   where
@@ -126,7 +126,7 @@ declared_is lines tables t are h =
     or-false true = refl
     or-false false = refl
 
-    named : list_any (λ l. names_table t l.telling) lines ≡ exists_in tables t
+    named : list_any (λ l. names_table t l.meaning) lines ≡ exists_in tables t
     named =
         any_dumped (names_table t) lines tables are
         ∙ ap (λ b. get_or (table_marks (map only (table_numbers tables))) t false || b)

@@ -10,9 +10,9 @@ use Rattle.key_syms.specs.Names.{name_text}
 use Rattle.key_text.specs.Fault.{fault, ◌>>=◌}
 use Rattle.key_text.specs.FaultKinds.{UNKNOWN_WORD}
 use Rattle.key_text.specs.Fields.{code_at, end_of_line, keyword_at, symbol_at}
-use Rattle.key_text.specs.Lines.{modified_by, modified_line, modifiers_at, modifiers_by, tells, weight_of}
+use Rattle.key_text.specs.Lines.{modified_by, modified_line, modifiers_at, modifiers_by, means, weight_of}
 use Rattle.key_text.specs.KeymapLine.{one}
-use Rattle.key_text.specs.Words.{bytes, next, spot}
+use Rattle.key_text.specs.Words.{bytes, next, place_of_word}
 use Rattle.key_text.specs.declared.placed.Place.{Place}
 use Rattle.key_text.specs.declared.placed.Placed.{Placed}
 use Rattle.key_dump.specs.Dump.{Modifier, entry_words, modifier, modifier_words, modifiers}
@@ -116,7 +116,7 @@ modifiers_read [] (suc n) table end items ws h good e =
       is =
           modifiers_step n table end items (w.word, w.left) None (next_is UNKNOWN_WORD end items (codes "keycode") (tail ws) w)
           (weight-by w.word ∙ ap weight_by w.spells ∙ keycode_weight)
-          ∙ ap (λ t. cond (str_eq_ignore_ascii_case t (codes "keycode")) (Ok (table, w.left)) (Err (fault UNKNOWN_WORD (spot w.word)))) w.spells;
+          ∙ ap (λ t. cond (str_eq_ignore_ascii_case t (codes "keycode")) (Ok (table, w.left)) (Err (fault UNKNOWN_WORD (place_of_word w.word)))) w.spells;
       leaves = w.leaves;
     }
 modifiers_read (m ∷ ms) (suc n) table end items ws h good e =
@@ -140,12 +140,12 @@ length-tail (m ∷ ms) ws =
     let both = length-append m.word (tail (map (λ m. m.word) ms ++ ws)) in
     omega arith
 
-modified-by : (weight : ℕ) (end : Place) (items : List Placed) (table code : ℕ) (a : Act) (p q r s : List Placed) → modifiers_at (length items + 1) weight end items ≡ Ok (table, p) → code_at end p ≡ Ok (code, q) → keyword_at (codes "=") end q ≡ Ok r → symbol_at end r ≡ Ok (a, s) → end_of_line s ≡ Ok tt → modified_line weight end items ≡ Ok (tells (one table code a))
+modified-by : (weight : ℕ) (end : Place) (items : List Placed) (table code : ℕ) (a : Act) (p q r s : List Placed) → modifiers_at (length items + 1) weight end items ≡ Ok (table, p) → code_at end p ≡ Ok (code, q) → keyword_at (codes "=") end q ≡ Ok r → symbol_at end r ≡ Ok (a, s) → end_of_line s ≡ Ok tt → modified_line weight end items ≡ Ok (means (one table code a))
 unfolding modified_line
 modified-by weight end items table code a p q r s e1 e2 e3 e4 e5 = rw (e1, e2, e3, e4, e5) refl
 
 -- the words behind the first modifier
-modified_read : NamesAreTheirOwn → (ms : List Modifier) (weight : ℕ) (end : Place) (items : List Placed) (c : ℕ) (a : Act) → list_all is_good ms ≡ true → 1 ≤ c → c < 256 → IsTrue (is_action a.kind a.value) → bytes items ≡ tail (map (λ m. m.word) ms ++ codes "keycode" ∷ decimal c ∷ codes "=" ∷ name_text a ∷ []) → modified_line weight end items ≡ Ok (tells (one (together weight ms) c a))
+modified_read : NamesAreTheirOwn → (ms : List Modifier) (weight : ℕ) (end : Place) (items : List Placed) (c : ℕ) (a : Act) → list_all is_good ms ≡ true → 1 ≤ c → c < 256 → IsTrue (is_action a.kind a.value) → bytes items ≡ tail (map (λ m. m.word) ms ++ codes "keycode" ∷ decimal c ∷ codes "=" ∷ name_text a ∷ []) → modified_line weight end items ≡ Ok (means (one (together weight ms) c a))
 modified_read own ms weight end items c a good some small action e =
     let few : length ms < length items + 1 =
     (let short = length-tail ms (codes "keycode" ∷ decimal c ∷ codes "=" ∷ name_text a ∷ []) in
@@ -173,7 +173,7 @@ by_words own t c a (m ∷ ms) are some small action =
     modified_first m.word end (word, left) is_one.other
     ∙ ap (modified_by end (word, left)) is_one.weighs
     ∙ modified_read own ms m.weight end left c a more.0 some small action leaves
-    ∙ ap (λ table. Ok (tells (one table c a))) (eqb-true (together m.weight ms) t more.1))
+    ∙ ap (λ table. Ok (means (one table c a))) (eqb-true (together m.weight ms) t more.1))
 
 -- the row of an entry
 pub entry_says : NamesAreTheirOwn → (t c : ℕ) (a : Act) → t < 256 → 1 ≤ c → c < 256 → IsTrue (is_action a.kind a.value) → Says (join_with_byte 0x20 (entry_words t c a)) (one t c a)

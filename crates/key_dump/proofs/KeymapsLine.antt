@@ -8,7 +8,7 @@ use Rattle.std.specs.List.{join_with_byte, list_all}
 use Rattle.key_text.specs.Fault.{◌>>=◌}
 use Rattle.key_text.specs.FaultKinds.{UNKNOWN_WORD}
 use Rattle.key_text.specs.Fields.{end_of_line}
-use Rattle.key_text.specs.Lines.{before, comma, dash, in_order, keymaps_line, table_marks, pieces, range_by, range_of, ranges_of, table_of, tables_in, tells}
+use Rattle.key_text.specs.Lines.{before, comma, dash, in_order, keymaps_line, table_marks, pieces, range_by, range_of, ranges_of, table_of, tables_in, means}
 use Rattle.key_text.specs.KeymapLine.{keymaps}
 use Rattle.key_text.specs.Words.{bytes, next}
 use Rattle.key_text.specs.declared.keymaps_line.TableRange.{TableRange}
@@ -108,7 +108,7 @@ joined_word n ns e =
     word_from (join_with_byte 0x2C (map decimal (n ∷ ns)))
     (some_joined n ns (ltb-true n 256 (and_parts (ltb n 256) (are_small ns) e).0)) (joined_bytes (n ∷ ns) e)
 
-keymaps_by : (end : Place) (items w left : List Placed) (marks : List Bool) → next UNKNOWN_WORD end items ≡ Ok (w, left) → tables_in w (bytes w) ≡ Ok marks → end_of_line left ≡ Ok tt → keymaps_line end items ≡ Ok (tells (keymaps marks))
+keymaps_by : (end : Place) (items w left : List Placed) (marks : List Bool) → next UNKNOWN_WORD end items ≡ Ok (w, left) → tables_in w (bytes w) ≡ Ok marks → end_of_line left ≡ Ok tt → keymaps_line end items ≡ Ok (means (keymaps marks))
 unfolding keymaps_line
 keymaps_by end items w left marks e1 e2 e3 = rw (e1, e2, e3) refl
 

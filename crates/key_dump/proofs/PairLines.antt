@@ -7,7 +7,7 @@ use Rattle.key_syms.specs.Act.{is_character}
 use Rattle.key_syms.specs.Laws.{CodePointsAreTheirOwn}
 use Rattle.key_syms.specs.declared.pair.Pair.{Pair}
 use Rattle.key_text.specs.Fields.{character_at, end_of_line, keyword_at}
-use Rattle.key_text.specs.Lines.{compose_line, is_next, is_next_by, pair_line, pair_of, tells, usual_pairs_line}
+use Rattle.key_text.specs.Lines.{compose_line, is_next, is_next_by, pair_line, pair_of, means, usual_pairs_line}
 use Rattle.key_text.specs.KeymapLine.{compose, is_real}
 use Rattle.key_text.specs.Words.{bytes}
 use Rattle.key_text.specs.declared.placed.Place.{Place}
@@ -18,7 +18,7 @@ use Rattle.key_dump.proofs.ReadFields.{character_read, end_of_line_read, keyword
 use Rattle.key_dump.proofs.RowsSay.{says_by, word_row}
 use Rattle.key_dump.proofs.TextRows.{Says, is_row}
 
-pair_by : (end : Place) (items : List Placed) (a b c : ℕ) (p q r s : List Placed) → character_at end items ≡ Ok (a, p) → character_at end p ≡ Ok (b, q) → keyword_at (codes "to") end q ≡ Ok r → character_at end r ≡ Ok (c, s) → end_of_line s ≡ Ok tt → pair_line end items ≡ Ok (tells (compose (pair_of a b c)))
+pair_by : (end : Place) (items : List Placed) (a b c : ℕ) (p q r s : List Placed) → character_at end items ≡ Ok (a, p) → character_at end p ≡ Ok (b, q) → keyword_at (codes "to") end q ≡ Ok r → character_at end r ≡ Ok (c, s) → end_of_line s ≡ Ok tt → pair_line end items ≡ Ok (means (compose (pair_of a b c)))
 unfolding pair_line
 pair_by end items a b c p q r s e1 e2 e3 e4 e5 = rw (e1, e2, e3, e4, e5) refl
 
@@ -29,7 +29,7 @@ not_as items n ws e =
     let w = word_of items (code_point n) ws e (code_point_word n) in
     ap (is_next_by (codes "as")) w.found ∙ ap (λ t. str_eq_ignore_ascii_case t (codes "as")) w.spells
 
-compose_read : CodePointsAreTheirOwn → (end : Place) (items : List Placed) (a b c : ℕ) → IsTrue (is_character a) → IsTrue (is_character b) → IsTrue (is_character c) → bytes items ≡ tail (code_point a ∷ code_point b ∷ codes "to" ∷ code_point c ∷ []) → compose_line end items ≡ Ok (tells (compose (pair_of a b c)))
+compose_read : CodePointsAreTheirOwn → (end : Place) (items : List Placed) (a b c : ℕ) → IsTrue (is_character a) → IsTrue (is_character b) → IsTrue (is_character c) → bytes items ≡ tail (code_point a ∷ code_point b ∷ codes "to" ∷ code_point c ∷ []) → compose_line end items ≡ Ok (means (compose (pair_of a b c)))
 unfolding compose_line
 compose_read own end items a b c good_a good_b good_c e =
     let accent = character_read own end items a (code_point b ∷ codes "to" ∷ code_point c ∷ []) good_a e in

@@ -12,7 +12,7 @@ use Rattle.key_text.specs.Fault.{fault, ◌>>=◌}
 use Rattle.key_text.specs.FaultKinds.{OUT_OF_RANGE, UNKNOWN_SYMBOL, UNKNOWN_WORD, WRONG_COUNT}
 use Rattle.key_text.specs.Fields.{action_of, character_at, character_by, character_in, code_at, end_of_line, function_at, function_by, good, is_quoted, keyword_at, symbol_action, named_character, number_in_range, real, symbol_at}
 use Rattle.key_text.specs.Quoted.{character_of}
-use Rattle.key_text.specs.Words.{bytes, is_quote, next, spot, required_word, word_at}
+use Rattle.key_text.specs.Words.{bytes, is_quote, next, place_of_word, required_word, word_at}
 use Rattle.key_text.specs.declared.fault.KeyFault.{KeyFault}
 use Rattle.key_text.specs.declared.placed.Place.{Place}
 use Rattle.key_text.specs.declared.placed.Placed.{Placed}
@@ -66,7 +66,7 @@ keyword_read text end items ws word same e =
 
 number_in_range_is : (low high : ℕ) (word : List Placed) (n : ℕ) → low ≤ n → n ≤ high → number_in_range low high word (Some n) ≡ Ok n
 number_in_range_is low high word n h k =
-    ap (λ b. cond b (Ok n) (Err (fault OUT_OF_RANGE (spot word)))) (and_from (leb low n) (leb n high) (le-leb low n h) (le-leb n high k))
+    ap (λ b. cond b (Ok n) (Err (fault OUT_OF_RANGE (place_of_word word)))) (and_from (leb low n) (leb n high) (le-leb low n h) (le-leb n high k))
 
 -- the number of a word
 pub number_number_in_range : (low : ℕ) (word : List Placed) (n : ℕ) (text : List ℕ) → text ≡ decimal n → low ≤ n → n < 256 → number_in_range low 255 word (number_of text) ≡ Ok n
@@ -125,7 +125,7 @@ unfolding character_in
 character-in own word n good_code e =
     ap (λ b. cond b (good word (character_of word)) (named_character word) >>= λ code. real word code) (not_quoted word 0x55 _ e refl)
     ∙ ap (λ read. (read >>= λ action. character_by word action) >>= λ code. real word code) (action-of word (code_point n) (act CHARACTER n) e (own n good_code))
-    ∙ ap (λ b. cond b (Ok n) (Err (fault UNKNOWN_SYMBOL (spot word)))) good_code
+    ∙ ap (λ b. cond b (Ok n) (Err (fault UNKNOWN_SYMBOL (place_of_word word)))) good_code
 
 pub character_read : CodePointsAreTheirOwn → (end : Place) (items : List Placed) (n : ℕ) (ws : List (List ℕ)) → IsTrue (is_character n) → bytes items ≡ tail (code_point n ∷ ws) → Reads (character_at end items) n ws
 unfolding character_at

@@ -4,8 +4,8 @@ use Rattle.std.proofs.lemmas.Bool.{and_from, and_parts}
 use Rattle.std.specs.List.{join_with_byte, list_all}
 use Rattle.std.specs.Str.{str_eq_ignore_ascii_case}
 use Rattle.key_text.specs.Fault.{◌>>=◌}
-use Rattle.key_text.specs.Lines.{Said, alt_is_meta_line, charset_line, compose_line, include_line, keymaps_line, keys_line, line_by, modified_by, said_from, string_line, tells, usual_strings_line, weight_of}
-use Rattle.key_text.specs.KeymapLine.{Telling}
+use Rattle.key_text.specs.Lines.{StatementView, alt_is_meta_line, charset_line, compose_line, include_line, keymaps_line, keys_line, line_by, modified_by, statement_from, string_line, means, usual_strings_line, weight_of}
+use Rattle.key_text.specs.KeymapLine.{LineMeaning}
 use Rattle.key_text.specs.Words.{bytes, word_at}
 use Rattle.key_text.specs.declared.fault.KeyFault.{KeyFault}
 use Rattle.key_text.specs.declared.placed.Place.{Place}
@@ -61,7 +61,7 @@ unfolding weight_of
 weight-by word = refl
 
 -- a line by the bytes of its first word
-abbrev pub line_with : List ℕ → Place → List Placed × List Placed → Result Said KeyFault
+abbrev pub line_with : List ℕ → Place → List Placed × List Placed → Result StatementView KeyFault
 line_with text end w =
     cond (str_eq_ignore_ascii_case text (codes "keymaps")) (keymaps_line end w.1)
     (cond (str_eq_ignore_ascii_case text (codes "keycode")) (keys_line end w.1)
@@ -78,14 +78,14 @@ unfolding line_by weight_of
 line-with end w = refl
 
 -- a row that begins with a word is read as what the line by that word says
-pub says_by : (w : List ℕ) (ws : List (List ℕ)) (telling : Telling) → is_word_text w ≡ true → list_all is_row ws ≡ true → ((end : Place) (word left : List Placed) → bytes left ≡ tail ws → line_with w end (word, left) ≡ Ok (tells telling)) → Says (join_with_byte 0x20 (w ∷ ws)) telling
-unfolding said_from
-says_by w ws telling word more by_word = record {
+pub says_by : (w : List ℕ) (ws : List (List ℕ)) (meaning : LineMeaning) → is_word_text w ≡ true → list_all is_row ws ≡ true → ((end : Place) (word left : List Placed) → bytes left ≡ tail ws → line_with w end (word, left) ≡ Ok (means meaning)) → Says (join_with_byte 0x20 (w ∷ ws)) meaning
+unfolding statement_from
+says_by w ws meaning word more by_word = record {
   plain = words_row w ws (word_row w word) more;
   says = λ end items e. at end items (first_word items w (tail ws) (e ∙ join_tail w ws) word (tail_behind ws));
 }
   where
-    at : (end : Place) (items : List Placed) → WordIs (word_at items) w (tail ws) → SaysAt end items telling
+    at : (end : Place) (items : List Placed) → WordIs (word_at items) w (tail ws) → SaysAt end items meaning
     at end items found = record {
       word = found.word;
       left = found.left;

@@ -8,10 +8,10 @@ use Rattle.key_syms.specs.Laws.{NamesAreTheirOwn}
 use Rattle.key_syms.specs.Names.{name_text}
 use Rattle.key_text.specs.FaultKinds.{BAD_TEXT}
 use Rattle.key_text.specs.Fields.{end_of_line, function_at, keyword_at, string_at, text_at}
-use Rattle.key_text.specs.Lines.{string_line, tells}
+use Rattle.key_text.specs.Lines.{string_line, means}
 use Rattle.key_text.specs.Quoted.{text_of}
 use Rattle.key_text.specs.KeymapLine.{string}
-use Rattle.key_text.specs.Words.{bytes, next, spot}
+use Rattle.key_text.specs.Words.{bytes, next, place_of_word}
 use Rattle.key_text.specs.declared.placed.Place.{Place}
 use Rattle.key_text.specs.declared.placed.Placed.{Placed}
 use Rattle.key_dump.specs.Dump.{quoted_text, string_words}
@@ -21,7 +21,7 @@ use Rattle.key_dump.proofs.ReadFields.{Reads, end_of_line_read, function_read, k
 use Rattle.key_dump.proofs.RowsSay.{says_by, word_row}
 use Rattle.key_dump.proofs.TextRows.{Says, is_row}
 
-text_by : (end : Place) (items w left : List Placed) (text : List ℕ) → next BAD_TEXT end items ≡ Ok (w, left) → text_of w ≡ Some text → text_at end items ≡ Ok (text, spot w, left)
+text_by : (end : Place) (items w left : List Placed) (text : List ℕ) → next BAD_TEXT end items ≡ Ok (w, left) → text_of w ≡ Some text → text_at end items ≡ Ok (text, place_of_word w, left)
 unfolding text_at
 text_by end items w left text e1 e2 = rw (e1, e2) refl
 
@@ -35,13 +35,13 @@ string_read end items text ws are short e =
     record {
       left = w.left;
       is =
-          short_by end items w.left text (spot w.word)
+          short_by end items w.left text (place_of_word w.word)
           (text_by end items w.word w.left text (next_is BAD_TEXT end items (quoted_text text) (tail ws) w) (text-of w.word text w.spells are))
           (le-leb (length text) 255 short);
       leaves = w.leaves;
     }
 
-string_by : (end : Place) (items : List Placed) (i : ℕ) (text : List ℕ) (p q r : List Placed) → function_at end items ≡ Ok (i, p) → keyword_at (codes "=") end p ≡ Ok q → string_at end q ≡ Ok (text, r) → end_of_line r ≡ Ok tt → string_line end items ≡ Ok (tells (string i text))
+string_by : (end : Place) (items : List Placed) (i : ℕ) (text : List ℕ) (p q r : List Placed) → function_at end items ≡ Ok (i, p) → keyword_at (codes "=") end p ≡ Ok q → string_at end q ≡ Ok (text, r) → end_of_line r ≡ Ok tt → string_line end items ≡ Ok (means (string i text))
 unfolding string_line
 string_by end items i text p q r e1 e2 e3 e4 = rw (e1, e2, e3, e4) refl
 

@@ -3,12 +3,12 @@ use Rattle.std.proofs.Common.{◌≡◌, ℕ, ◌≤◌, Bool, true, false, ◌=
 use Rattle.std.proofs.lemmas.Bool.{and_from, and_left, and_parts, and_right, leb-true, ne_eqb, not-true, or_from}
 use Rattle.std.specs.List.{flat_map, join_with_byte}
 use Rattle.key_text.specs.Fault.{◌>>=◌}
-use Rattle.key_text.specs.Lines.{tells, said_from}
+use Rattle.key_text.specs.Lines.{means, statement_from}
 use Rattle.key_text.specs.Reading.{Deeper, Got, make_got, lines_of, most_deep, read_row, read_rows, start, within}
 use Rattle.key_text.specs.Rows.{Row, after, backslash, begins_end, begins_lf, carriage_return, join_continuations, line_feed, next_line, place_of, with_places, put_at, row_of, rows, rows_of, with_item}
-use Rattle.key_text.specs.KeymapLine.{Telling, KeymapLine}
+use Rattle.key_text.specs.KeymapLine.{LineMeaning, KeymapLine}
 use Rattle.key_text.specs.View.{keymap_line}
-use Rattle.key_text.specs.Words.{bytes, spot, word_at}
+use Rattle.key_text.specs.Words.{bytes, place_of_word, word_at}
 use Rattle.key_text.specs.declared.fault.KeyFault.{KeyFault}
 use Rattle.key_text.specs.declared.placed.Place.{Place}
 use Rattle.key_text.specs.declared.placed.Placed.{Placed}
@@ -69,80 +69,80 @@ row_first at (b ∷ bs) rest e =
     ∙ ap (with_item p) (row_first (after at) bs rest more.1)
 
 -- these items of a row are read as this line
-pub record SaysAt (end : Place) (items : List Placed) (telling : Telling) : Type 0 where
+pub record SaysAt (end : Place) (items : List Placed) (meaning : LineMeaning) : Type 0 where
   pub word : List Placed
   pub left : List Placed
   pub found : word_at items ≡ Some (word, left)
-  pub said : said_from end (word, left) ≡ Ok (tells telling)
+  pub said : statement_from end (word, left) ≡ Ok (means meaning)
 
 -- a row is read as this line, wherever it stands
-pub record Says (row : List ℕ) (telling : Telling) : Type 0 where
+pub record Says (row : List ℕ) (meaning : LineMeaning) : Type 0 where
   pub plain : is_row row ≡ true
-  pub says : (end : Place) (items : List Placed) → bytes items ≡ row → SaysAt end items telling
+  pub says : (end : Place) (items : List Placed) → bytes items ≡ row → SaysAt end items meaning
 
 -- rows of words are read as these lines
-abbrev pub AllSay : List (List (List ℕ)) → List Telling → Type 0
+abbrev pub AllSay : List (List (List ℕ)) → List LineMeaning → Type 0
 AllSay [] [] = Unit {0}
-AllSay [] (telling ∷ tellings) = ⊥
+AllSay [] (meaning ∷ meanings) = ⊥
 AllSay (row ∷ rs) [] = ⊥
-AllSay (row ∷ rs) (telling ∷ tellings) = Says (join_with_byte 0x20 row) telling × AllSay rs tellings
+AllSay (row ∷ rs) (meaning ∷ meanings) = Says (join_with_byte 0x20 row) meaning × AllSay rs meanings
 
-pub all_say_append : (xs ys : List (List (List ℕ))) (us vs : List Telling) → AllSay xs us → AllSay ys vs → AllSay (xs ++ ys) (us ++ vs)
+pub all_say_append : (xs ys : List (List (List ℕ))) (us vs : List LineMeaning) → AllSay xs us → AllSay ys vs → AllSay (xs ++ ys) (us ++ vs)
 all_say_append [] ys [] vs p q = q
 all_say_append [] ys (u ∷ us) vs p q = absurd p
 all_say_append (x ∷ xs) ys [] vs p q = absurd p
 all_say_append (x ∷ xs) ys (u ∷ us) vs p q = (p.0, all_say_append xs ys us vs p.1 q)
 
 -- lines that were read tell this
-pub record LinesTell (read : Result Got KeyFault) (tellings : List Telling) : Type 0 where
+pub record LinesTell (read : Result Got KeyFault) (meanings : List LineMeaning) : Type 0 where
   pub lines : List KeymapLine
   pub is : read ≡ Ok (make_got lines 0)
-  pub tell : map (λ l. l.telling) lines ≡ tellings
+  pub tell : map (λ l. l.meaning) lines ≡ meanings
 
-read_row_says : (deeper : Deeper) (end : Place) (items : List Placed) (telling : Telling) (says : SaysAt end items telling) → read_row deeper [] None 0 end items ≡ Ok (make_got (keymap_line telling (spot says.word).line (spot says.word).column ∷ []) 0)
+read_row_says : (deeper : Deeper) (end : Place) (items : List Placed) (meaning : LineMeaning) (says : SaysAt end items meaning) → read_row deeper [] None 0 end items ≡ Ok (make_got (keymap_line meaning (place_of_word says.word).line (place_of_word says.word).column ∷ []) 0)
 unfolding read_row
-read_row_says deeper end items telling says =
+read_row_says deeper end items meaning says =
     cc (says.found, says.said)
 
 no_row : (deeper : Deeper) (at : Place) → read_rows deeper [] None 0 (rows at (join_continuations (with_places at []))) ≡ Ok (make_got [] 0)
 unfolding read_row word_at
 no_row deeper at = refl
 
-one_row : (deeper : Deeper) (end : Place) (items : List Placed) (left : List Row) (telling : KeymapLine) (lines : List KeymapLine) → read_row deeper [] None 0 end items ≡ Ok (make_got (telling ∷ []) 0) → read_rows deeper [] None 0 left ≡ Ok (make_got lines 0) → read_rows deeper [] None 0 (row_of items end ∷ left) ≡ Ok (make_got (telling ∷ lines) 0)
-one_row deeper end items left telling lines first more =
+one_row : (deeper : Deeper) (end : Place) (items : List Placed) (left : List Row) (meaning : KeymapLine) (lines : List KeymapLine) → read_row deeper [] None 0 end items ≡ Ok (make_got (meaning ∷ []) 0) → read_rows deeper [] None 0 left ≡ Ok (make_got lines 0) → read_rows deeper [] None 0 (row_of items end ∷ left) ≡ Ok (make_got (meaning ∷ lines) 0)
+one_row deeper end items left meaning lines first more =
     search rules
 
-rows_read : (deeper : Deeper) (at : Place) (rs : List (List (List ℕ))) (tellings : List Telling) → AllSay rs tellings → LinesTell (read_rows deeper [] None 0 (rows at (join_continuations (with_places at (flat_map row_text rs))))) tellings
+rows_read : (deeper : Deeper) (at : Place) (rs : List (List (List ℕ))) (meanings : List LineMeaning) → AllSay rs meanings → LinesTell (read_rows deeper [] None 0 (rows at (join_continuations (with_places at (flat_map row_text rs))))) meanings
 rows_read deeper at [] [] said = record { lines = []; is = no_row deeper at; tell = refl }
-rows_read deeper at [] (telling ∷ tellings) said = absurd said
+rows_read deeper at [] (meaning ∷ meanings) said = absurd said
 rows_read deeper at (ws ∷ rs) [] said = absurd said
-rows_read deeper at (ws ∷ rs) (telling ∷ tellings) said =
+rows_read deeper at (ws ∷ rs) (meaning ∷ meanings) said =
     let row = join_with_byte 0x20 ws in
     let rest = flat_map row_text rs in
     let next = next_line (past at row) in
     let says = said.0.says (past at row) (spread at row) (bytes-spread at row) in
-    let more = rows_read deeper next rs tellings said.1 in
-    let line = keymap_line telling (spot says.word).line (spot says.word).column in
+    let more = rows_read deeper next rs meanings said.1 in
+    let line = keymap_line meaning (place_of_word says.word).line (place_of_word says.word).column in
     record {
       lines = line ∷ more.lines;
       is =
           ap (λ text. read_rows deeper [] None 0 (rows at (join_continuations (with_places at text)))) (append_assoc row (codes "\n") rest)
           ∙ ap (read_rows deeper [] None 0) (row_first at row rest said.0.plain)
           ∙ one_row deeper (past at row) (spread at row) (rows next (join_continuations (with_places next rest))) line more.lines
-          (read_row_says deeper (past at row) (spread at row) telling says) more.is;
-      tell = ap (λ ts. telling ∷ ts) more.tell;
+          (read_row_says deeper (past at row) (spread at row) meaning says) more.is;
+      tell = ap (λ ts. meaning ∷ ts) more.tell;
     }
 
 -- a text is read as lines that tell this
-pub record TextTells (text : List ℕ) (tellings : List Telling) : Type 0 where
+pub record TextTells (text : List ℕ) (meanings : List LineMeaning) : Type 0 where
   pub lines : List KeymapLine
   pub is : lines_of [] text ≡ Ok lines
-  pub tell : map (λ l. l.telling) lines ≡ tellings
+  pub tell : map (λ l. l.meaning) lines ≡ meanings
 
-pub text_read : (rs : List (List (List ℕ))) (tellings : List Telling) → AllSay rs tellings → TextTells (flat_map row_text rs) tellings
+pub text_read : (rs : List (List (List ℕ))) (meanings : List LineMeaning) → AllSay rs meanings → TextTells (flat_map row_text rs) meanings
 unfolding lines_of rows_of
-text_read rs tellings said =
-    let read = rows_read (within most_deep []) start rs tellings said in
+text_read rs meanings said =
+    let read = rows_read (within most_deep []) start rs meanings said in
     search rules
 
 -- a row of two parts

@@ -10,7 +10,7 @@ use Rattle.key_text.specs.Fault.{fault}
 use Rattle.key_text.specs.FaultKinds.{BAD_TEXT, LONG_STRING, OUT_OF_RANGE, UNKNOWN_SYMBOL, UNKNOWN_WORD, WRONG_COUNT, LEFT_OVER}
 use Rattle.key_text.specs.Fields.{action_of, character_at, character_by, character_in, code_at, end_of_line, ended_by, function_at, function_by, good, is_quoted, keyword_at, symbol_action, named_character, number_in_range, real, string_at, symbol_at, text_at}
 use Rattle.key_text.specs.Quoted.{character_of, text_of}
-use Rattle.key_text.specs.Words.{bytes, is_word, next, spot, whole, word_at}
+use Rattle.key_text.specs.Words.{bytes, is_word, next, place_of_word, whole, word_at}
 use Rattle.key_text.specs.declared.placed.Place.{Place}
 use Rattle.key_text.specs.declared.placed.Placed.{Placed}
 
@@ -26,7 +26,7 @@ endeds None None l = refl
 endeds None (Some w) l = absurd l
 endeds (Some v) None l = absurd l
 endeds (Some v) (Some w) l =
-    then Words Equal (whole v) (whole w) (λ u. Err (fault LEFT_OVER (spot u.0))) (λ u. Err (fault LEFT_OVER (spot u.0)))
+    then Words Equal (whole v) (whole w) (λ u. Err (fault LEFT_OVER (place_of_word u.0))) (λ u. Err (fault LEFT_OVER (place_of_word u.0)))
     (wholes v w l) (λ u t k. refl)
 
 pub ending : (i j : List Placed) → Alike i j → Same Equal (end_of_line i) (end_of_line j)
@@ -37,12 +37,12 @@ pub keywords : (text : List ℕ) → IsTrue (begins_key text) → (d e : Place) 
 unfolding keyword_at
 keywords text key d e i j s =
     then Words Alike (next UNKNOWN_WORD d i) (next UNKNOWN_WORD e j) _ _ (taking UNKNOWN_WORD d e i j s)
-    (λ v w l. pick Alike (is_word text v.0) (is_word text w.0) (Ok v.1) (Err (fault UNKNOWN_WORD (spot v.0))) (Ok w.1) (Err (fault UNKNOWN_WORD (spot w.0))) ((l.0).keyword text key) l.1 refl)
+    (λ v w l. pick Alike (is_word text v.0) (is_word text w.0) (Ok v.1) (Err (fault UNKNOWN_WORD (place_of_word v.0))) (Ok w.1) (Err (fault UNKNOWN_WORD (place_of_word w.0))) ((l.0).keyword text key) l.1 refl)
 
 rangeds_at : (low high : ℕ) (v w : List Placed) (n : Option ℕ) → Same Equal (number_in_range low high v n) (number_in_range low high w n)
 rangeds_at low high v w None = refl
 rangeds_at low high v w (Some n) =
-    pick Equal (nat_le low n && nat_le n high) (nat_le low n && nat_le n high) (Ok n) (Err (fault OUT_OF_RANGE (spot v))) (Ok n) (Err (fault OUT_OF_RANGE (spot w))) refl refl refl
+    pick Equal (nat_le low n && nat_le n high) (nat_le low n && nat_le n high) (Ok n) (Err (fault OUT_OF_RANGE (place_of_word v))) (Ok n) (Err (fault OUT_OF_RANGE (place_of_word w))) refl refl refl
 
 pub rangeds : (low high : ℕ) (v w : List Placed) (n m : Option ℕ) → n ≡ m → Same Equal (number_in_range low high v n) (number_in_range low high w m)
 rangeds low high v w n m e = subst (λ (x : Option ℕ). Same Equal (number_in_range low high v n) (number_in_range low high w x)) e (rangeds_at low high v w n)
@@ -70,7 +70,7 @@ symbolic d e i j s =
 
 function_bys : (v w : List Placed) (a b : Act) → a ≡ b → Same Equal (function_by v a) (function_by w b)
 function_bys v w a b e =
-    pick Equal (a.kind == FUNCTION) (b.kind == FUNCTION) (Ok a.value) (Err (fault UNKNOWN_SYMBOL (spot v))) (Ok b.value) (Err (fault UNKNOWN_SYMBOL (spot w)))
+    pick Equal (a.kind == FUNCTION) (b.kind == FUNCTION) (Ok a.value) (Err (fault UNKNOWN_SYMBOL (place_of_word v))) (Ok b.value) (Err (fault UNKNOWN_SYMBOL (place_of_word w)))
     (ap (λ (c : Act). c.kind == FUNCTION) e) (ap (λ (c : Act). c.value) e) refl
 
 pub functions : (d e : Place) (i j : List Placed) → Alike i j → Same With (function_at d i) (function_at e j)
@@ -107,12 +107,12 @@ strings d e i j s =
 
 character_bys : (v w : List Placed) (a b : Act) → a ≡ b → Same Equal (character_by v a) (character_by w b)
 character_bys v w a b e =
-    pick Equal (a.kind == CHARACTER) (b.kind == CHARACTER) (Ok a.value) (Err (fault UNKNOWN_SYMBOL (spot v))) (Ok b.value) (Err (fault UNKNOWN_SYMBOL (spot w)))
+    pick Equal (a.kind == CHARACTER) (b.kind == CHARACTER) (Ok a.value) (Err (fault UNKNOWN_SYMBOL (place_of_word v))) (Ok b.value) (Err (fault UNKNOWN_SYMBOL (place_of_word w)))
     (ap (λ (c : Act). c.kind == CHARACTER) e) (ap (λ (c : Act). c.value) e) refl
 
 reals : (v w : List Placed) (n m : ℕ) → n ≡ m → Same Equal (real v n) (real w m)
 reals v w n m e =
-    pick Equal (is_character n) (is_character m) (Ok n) (Err (fault UNKNOWN_SYMBOL (spot v))) (Ok m) (Err (fault UNKNOWN_SYMBOL (spot w)))
+    pick Equal (is_character n) (is_character m) (Ok n) (Err (fault UNKNOWN_SYMBOL (place_of_word v))) (Ok m) (Err (fault UNKNOWN_SYMBOL (place_of_word w)))
     (ap is_character e) e refl
 
 named : (v w : List Placed) → Like v w → Same Equal (named_character v) (named_character w)

@@ -11,10 +11,10 @@ use Rattle.key_text.proofs.Shorter.{shorter}
 use Rattle.key_text.specs.Fault.{fault, ◌>>=◌}
 use Rattle.key_text.specs.FaultKinds.{BAD_TEXT, UNKNOWN_WORD}
 use Rattle.key_text.specs.Fields.{action_of, character_at, code_at, end_of_line, function_at, keyword_at, string_at, symbol_at, symbols_after, symbols_at, text_at, with_actions}
-use Rattle.key_text.specs.KeymapLine.{Telling, alt_is_meta, compose, keymaps, keys, one, string, usual_pairs, usual_strings}
-use Rattle.key_text.specs.Lines.{Said, after_charset, alt_is_meta_line, charset_line, compose_line, include_line, includes, is_next, is_next_by, keymaps_line, keys_line, line_by, modified_by, modified_line, modifiers_at, modifiers_by, nothing, pair_line, pair_of, said_from, string_line, tables_in, tells, usual_pairs_line, usual_strings_line, weight_of}
+use Rattle.key_text.specs.KeymapLine.{LineMeaning, alt_is_meta, compose, keymaps, keys, one, string, usual_pairs, usual_strings}
+use Rattle.key_text.specs.Lines.{StatementView, after_charset, alt_is_meta_line, charset_line, compose_line, include_line, includes, is_next, is_next_by, keymaps_line, keys_line, line_by, modified_by, modified_line, modifiers_at, modifiers_by, nothing, pair_line, pair_of, statement_from, string_line, tables_in, means, usual_pairs_line, usual_strings_line, weight_of}
 use Rattle.key_text.specs.SameWords.{ended as done, word}
-use Rattle.key_text.specs.Words.{bytes, is_word, next, nth_place, spot, required_word, whole, word_at}
+use Rattle.key_text.specs.Words.{bytes, is_word, next, nth_place, place_of_word, required_word, whole, word_at}
 use Rattle.key_text.specs.declared.fault.KeyFault.{KeyFault}
 use Rattle.key_text.specs.declared.placed.Place.{Place}
 use Rattle.key_text.specs.declared.placed.Placed.{Placed}
@@ -27,13 +27,13 @@ Faults (Some f) None = ⊥
 Faults (Some f) (Some g) = f.kind ≡ g.kind
 
 -- rows that say the same
-pub data Says : Said → Said → Type 0 where
+pub data Says : StatementView → StatementView → Type 0 where
   no_line : Says nothing nothing
-  a_line : (t : Telling) → Says (tells t) (tells t)
+  a_line : (t : LineMeaning) → Says (means t) (means t)
   an_include : (name : List ℕ) (p q : Place) (b c : Option KeyFault) → Faults b c → Says (includes name p b) (includes name q c)
 
-tells_same : (t u : Telling) → t ≡ u → Says (tells t) (tells u)
-tells_same t u e = subst (λ (x : Telling). Says (tells t) (tells x)) e (a_line t)
+tells_same : (t u : LineMeaning) → t ≡ u → Says (means t) (means u)
+tells_same t u e = subst (λ (x : LineMeaning). Says (means t) (means x)) e (a_line t)
 
 includes_same : (n m : List ℕ) (p q : Place) (b c : Option KeyFault) → n ≡ m → Faults b c → Says (includes n p b) (includes m q c)
 includes_same n m p q b c e f = subst (λ (x : List ℕ). Says (includes n p b) (includes x q c)) e (an_include n p q b c f)
@@ -124,7 +124,7 @@ modifiers-by n m table d e v w x y same l rest =
   where
     at : (x : Option ℕ) → Same With (modifiers_by (λ more left. modifiers_at n more d left) table v x) (modifiers_by (λ more left. modifiers_at m more e left) table w x)
     at (Some weight) = rest (bit_or table weight)
-    at None = pick With (is_word (codes "keycode") v.0) (is_word (codes "keycode") w.0) (Ok (table, v.1)) (Err (fault UNKNOWN_WORD (spot v.0))) (Ok (table, w.1)) (Err (fault UNKNOWN_WORD (spot w.0))) ((l.0).keyword (codes "keycode") refl) (refl, l.1) refl
+    at None = pick With (is_word (codes "keycode") v.0) (is_word (codes "keycode") w.0) (Ok (table, v.1)) (Err (fault UNKNOWN_WORD (place_of_word v.0))) (Ok (table, w.1)) (Err (fault UNKNOWN_WORD (place_of_word w.0))) ((l.0).keyword (codes "keycode") refl) (refl, l.1) refl
 
 next_none : (kind : ℕ) (d : Place) (i : List Placed) → word_at i ≡ None → next kind d i ≡ Err (fault kind d)
 unfolding next
@@ -275,6 +275,6 @@ line_says d e v w l =
     (pick Says (is_word (codes "strings") v.0) (is_word (codes "strings") w.0) _ _ _ _ (key (codes "strings") refl) (usual_strings_says d e v.1 w.1 l.1)
     (modified-by d e v w l (weight_of v.0) (weight_of w.0) (weights v.0 w.0 l.0)))))))))
 
-pub row_says : (d e : Place) (v w : List Placed × List Placed) → Keys v w → Same Says (said_from d v) (said_from e w)
-unfolding said_from
+pub row_says : (d e : Place) (v w : List Placed × List Placed) → Keys v w → Same Says (statement_from d v) (statement_from e w)
+unfolding statement_from
 row_says d e v w l = whole-then Says v w (line_by d) (line_by e) l.0 (line_says d e v w l)

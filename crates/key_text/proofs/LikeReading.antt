@@ -9,19 +9,19 @@ use Rattle.key_text.specs.Fault.{fault, ◌>>=◌}
 use Rattle.key_text.specs.FaultKinds.{TOO_MANY_INCLUDES}
 use Rattle.key_text.specs.Included.{Named, text_named}
 use Rattle.key_text.specs.KeymapLine.{KeymapLine}
-use Rattle.key_text.specs.Lines.{Said, said_from}
+use Rattle.key_text.specs.Lines.{StatementView, statement_from}
 use Rattle.key_text.specs.Reading.{Deeper, Got, at_outer_include, blamed_fault, got_from_row, make_got, got_from_include, lines_of, most_deep, most_includes, read_row, read_row_by, read_rows, start, unless, with_lines, within}
 use Rattle.key_text.specs.Rows.{Row, rows_of}
 use Rattle.key_text.specs.SameWords.{SameBytes, SameRows, SameWords, WordsDecide, done, row, left, right, ended, word}
-use Rattle.key_text.specs.Tellings.{tellings, tellings_or_fault}
-use Rattle.key_text.specs.Words.{spot, word_at}
+use Rattle.key_text.specs.Meanings.{meanings, meanings_or_fault}
+use Rattle.key_text.specs.Words.{place_of_word, word_at}
 use Rattle.key_text.specs.declared.fault.KeyFault.{KeyFault}
 use Rattle.key_text.specs.declared.placed.Place.{Place}
 use Rattle.key_text.specs.declared.placed.Placed.{Placed}
 
 -- lines that tell the same, and as many texts
 abbrev pub Gots : Got → Got → Type 0
-Gots g h = (tellings g.lines ≡ tellings h.lines) × (g.count ≡ h.count)
+Gots g h = (meanings g.lines ≡ meanings h.lines) × (g.count ≡ h.count)
 
 -- two ways to read an included text tell the same
 abbrev pub Deepers : Deeper → Deeper → Type 0
@@ -43,9 +43,9 @@ includeds : (x y : List ℕ → Result Got KeyFault) (p q : Place) (text : Optio
 includeds x y p q None h = refl
 includeds x y p q (Some text) h = h text
 
-givens : (x y : Deeper) (texts : List Named) (a b : Option Place) (p q : Place) (n : ℕ) → Deepers x y → (s t : Said) → Says s t → Same Gots (got_from_row x texts a p n s) (got_from_row y texts b q n t)
+givens : (x y : Deeper) (texts : List Named) (a b : Option Place) (p q : Place) (n : ℕ) → Deepers x y → (s t : StatementView) → Says s t → Same Gots (got_from_row x texts a p n s) (got_from_row y texts b q n t)
 givens x y texts a b p q n deep s t no_line = (refl, refl)
-givens x y texts a b p q n deep s t (a_line telling) = (refl, refl)
+givens x y texts a b p q n deep s t (a_line meaning) = (refl, refl)
 givens x y texts a b p q n deep s t (an_include name f g k l h) =
     includeds (x (unwrap_or a f) (unwrap_or a p) (option_map (blamed_fault a) k) n) (y (unwrap_or b g) (unwrap_or b q) (option_map (blamed_fault b) l) n) (unwrap_or a f) (unwrap_or b g) (text_named name texts)
     (λ text. deep (unwrap_or a f) (unwrap_or a p) (unwrap_or b g) (unwrap_or b q) (option_map (blamed_fault a) k) (option_map (blamed_fault b) l) (at_outer_include_faults a b k l h) n text)
@@ -55,15 +55,15 @@ abbrev pub Sayings : Place → Place → Option (List Placed × List Placed) →
 Sayings d e None None = Unit {0}
 Sayings d e None (Some w) = ⊥
 Sayings d e (Some v) None = ⊥
-Sayings d e (Some v) (Some w) = Same Says (said_from d v) (said_from e w)
+Sayings d e (Some v) (Some w) = Same Says (statement_from d v) (statement_from e w)
 
 rows_by : (x y : Deeper) (texts : List Named) (a b : Option Place) (n : ℕ) (d e : Place) → Deepers x y → (v w : Option (List Placed × List Placed)) → Sayings d e v w → Same Gots (read_row_by x texts a n d v) (read_row_by y texts b n e w)
 rows_by x y texts a b n d e deep None None l = (refl, refl)
 rows_by x y texts a b n d e deep None (Some w) l = absurd l
 rows_by x y texts a b n d e deep (Some v) None l = absurd l
 rows_by x y texts a b n d e deep (Some v) (Some w) l =
-    then Says Gots (at_outer_include a (said_from d v)) (at_outer_include b (said_from e w)) _ _ (blames Says a b (said_from d v) (said_from e w) l)
-    (λ s t k. givens x y texts a b (spot v.0) (spot w.0) n deep s t k)
+    then Says Gots (at_outer_include a (statement_from d v)) (at_outer_include b (statement_from e w)) _ _ (blames Says a b (statement_from d v) (statement_from e w) l)
+    (λ s t k. givens x y texts a b (place_of_word v.0) (place_of_word w.0) n deep s t k)
 
 row_reads : (x y : Deeper) (texts : List Named) (a b : Option Place) (n : ℕ) (d e : Place) (i j : List Placed) → Deepers x y → Sayings d e (word_at i) (word_at j) → Same Gots (read_row x texts a n d i) (read_row y texts b n e j)
 unfolding read_row
@@ -101,13 +101,13 @@ rows_empty x texts a n r rs e =
     ap (λ read. read >>= λ g. with_lines g.lines (read_rows x texts a g.count rs)) (row_empty x texts a n r.end r.items e)
     ∙ with_nothing (read_rows x texts a n rs)
 
-tellings_more : (xs ys : List KeymapLine) → tellings (xs ++ ys) ≡ tellings xs ++ tellings ys
+tellings_more : (xs ys : List KeymapLine) → meanings (xs ++ ys) ≡ meanings xs ++ meanings ys
 tellings_more [] ys = refl
-tellings_more (x ∷ xs) ys = ap (λ ts. x.telling ∷ ts) (tellings_more xs ys)
+tellings_more (x ∷ xs) ys = ap (λ ts. x.meaning ∷ ts) (tellings_more xs ys)
 
-after_lines : (xs ys : List KeymapLine) → tellings xs ≡ tellings ys → (r s : Result Got KeyFault) → Same Gots r s → Same Gots (with_lines xs r) (with_lines ys s)
+after_lines : (xs ys : List KeymapLine) → meanings xs ≡ meanings ys → (r s : Result Got KeyFault) → Same Gots r s → Same Gots (with_lines xs r) (with_lines ys s)
 after_lines xs ys e (Ok g) (Ok h) l =
-    (tellings_more xs g.lines ∙ ap (λ ts. ts ++ tellings g.lines) e ∙ ap (λ ts. tellings ys ++ ts) l.0 ∙ sym (tellings_more ys h.lines), l.1)
+    (tellings_more xs g.lines ∙ ap (λ ts. ts ++ meanings g.lines) e ∙ ap (λ ts. meanings ys ++ ts) l.0 ∙ sym (tellings_more ys h.lines), l.1)
 after_lines xs ys e (Ok g) (Err f) l = absurd l
 after_lines xs ys e (Err f) (Ok h) l = absurd l
 after_lines xs ys e (Err f) (Err g) l = l
@@ -145,13 +145,13 @@ deeper (suc n) texts = λ p q r s b c f m text.
     (unlesses b c (read_rows (within n texts) texts (Some q) (m + 1) (rows_of start text)) (read_rows (within n texts) texts (Some s) (m + 1) (rows_of start text)) f
     (rows_read Alike alike_said (within n texts) (within n texts) texts (Some q) (Some s) (deeper n texts) (rows_of start text) (rows_of start text) (own_rows (rows_of start text)) (m + 1)))
 
-pub tolds : (r s : Result Got KeyFault) → Same Gots r s → tellings_or_fault (r >>= λ g. Ok g.lines) ≡ tellings_or_fault (s >>= λ g. Ok g.lines)
+pub tolds : (r s : Result Got KeyFault) → Same Gots r s → meanings_or_fault (r >>= λ g. Ok g.lines) ≡ meanings_or_fault (s >>= λ g. Ok g.lines)
 tolds (Ok g) (Ok h) l = ap Ok l.0
 tolds (Ok g) (Err f) l = absurd l
 tolds (Err f) (Ok h) l = absurd l
 tolds (Err f) (Err g) l = ap Err l
 
-pub rows_decide : (alike : List Placed → List Placed → Type 0) → AreSaid alike → (texts : List Named) (a b : List ℕ) → SameRows alike (rows_of start a) (rows_of start b) → tellings_or_fault (lines_of texts a) ≡ tellings_or_fault (lines_of texts b)
+pub rows_decide : (alike : List Placed → List Placed → Type 0) → AreSaid alike → (texts : List Named) (a b : List ℕ) → SameRows alike (rows_of start a) (rows_of start b) → meanings_or_fault (lines_of texts a) ≡ meanings_or_fault (lines_of texts b)
 unfolding lines_of
 rows_decide alike said texts a b s =
     tolds (read_rows (within most_deep texts) texts None 0 (rows_of start a)) (read_rows (within most_deep texts) texts None 0 (rows_of start b))

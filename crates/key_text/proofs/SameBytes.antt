@@ -16,7 +16,7 @@ use Rattle.key_text.specs.Lines.{before, dash, in_order, table_marks, pieces, ra
 use Rattle.key_text.specs.Quoted.{text_between, character_of, text_before_quote, one_character, text_of, unescaped_whole}
 use Rattle.key_text.specs.Rows.{backslash}
 use Rattle.key_text.specs.SameWords.{SameWords, ended, word}
-use Rattle.key_text.specs.Words.{bytes, close_at, spot, word_at}
+use Rattle.key_text.specs.Words.{bytes, close_at, place_of_word, word_at}
 use Rattle.key_text.specs.declared.keymaps_line.TableRange.{TableRange}
 use Rattle.key_text.specs.declared.placed.Placed.{Placed}
 
@@ -80,7 +80,7 @@ ranges_same low high a b e f = ap (λ x. range x high) e ∙ ap (range a) f
 
 in_orders : (v w : List Placed) (low high a b : ℕ) → low ≡ a → high ≡ b → Same Equal (in_order v low high) (in_order w a b)
 in_orders v w low high a b e f =
-    pick Equal (nat_le low high) (nat_le a b) (Ok (range low high)) (Err (fault OUT_OF_RANGE (spot v))) (Ok (range a b)) (Err (fault OUT_OF_RANGE (spot w)))
+    pick Equal (nat_le low high) (nat_le a b) (Ok (range low high)) (Err (fault OUT_OF_RANGE (place_of_word v))) (Ok (range a b)) (Err (fault OUT_OF_RANGE (place_of_word w)))
     (ap (λ x. nat_le x high) e ∙ ap (nat_le a) f) (ranges_same low high a b e f) refl
 
 ranges_by : (v w : List Placed) (piece : List ℕ) (n : ℕ) → Same Equal (range_by v piece n) (range_by w piece n)

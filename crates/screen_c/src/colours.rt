@@ -1,7 +1,7 @@
 //! The colours and the user's table of a screen.
 ghost use Rattle.std.specs.Prelude.{◌≡◌, ◌<◌, ◌≤◌, ◌⊎◌, map, slice_set, IfNone, IfSome, None, Some};
 ghost use Rattle.screen_c.specs.Codes.{NOTHING, OK, RANGE};
-ghost use Rattle.screen_c.specs.Held.{with_machine};
+ghost use Rattle.screen_c.specs.Held.{with_emu};
 ghost use Rattle.screen_c.specs.Loans.{IsSameLoan};
 ghost use Rattle.screen_c.specs.Places.{with_items};
 ghost use Rattle.screen_c.specs.Shown.{c_colour};
@@ -17,7 +17,7 @@ pub extern "C" fn vt_lent_screen_palette(loan: &mut ScreenLoan, colours: &mut [V
     ensures same { IsSameLoan loan.old loan.new }
     ensures nothing { IfNone loan.old.value ((result ≡ NOTHING) × (colours.new ≡ colours.old)) }
     ensures colours { IfSome loan.old.value (λ o. (result ≡ OK)
-        × (colours.new ≡ with_items (map c_colour o.machine.state.state.palette) colours.old)) }
+        × (colours.new ≡ with_items (map c_colour o.emu.state.state.palette) colours.old)) }
 {
     let lent = loan.take();
     let answer = match lent.get() {
@@ -54,10 +54,10 @@ pub extern "C" fn vt_screen_set_colour(
     alloc: Global,
 ) -> u8
     ensures nothing { IfNone handle.old.value ((result ≡ NOTHING) × (handle.new.value ≡ None)) }
-    ensures colour { IfSome handle.old.value (λ o. let old = o.machine.state.state.palette in
+    ensures colour { IfSome handle.old.value (λ o. let old = o.emu.state.state.palette in
         ((result ≡ OK) × (number < 16)
-        × (handle.new.value ≡ Some (with_machine
-        (with_change (palette (slice_set old number (red, green, blue))) o.machine) o)))
+        × (handle.new.value ≡ Some (with_emu
+        (with_change (palette (slice_set old number (red, green, blue))) o.emu) o)))
         ⊎ ((result ≡ RANGE) × (16 ≤ number) × (handle.new.value ≡ Some o))) }
 {
     match handle.take(alloc) {
@@ -86,7 +86,7 @@ pub extern "C" fn vt_screen_set_user(
 ) -> u8
     ensures nothing { IfNone handle.old.value ((result ≡ NOTHING) × (handle.new.value ≡ None)) }
     ensures table { IfSome handle.old.value (λ o. (result ≡ OK)
-        × (handle.new.value ≡ Some (with_machine (with_change (user_map words.now) o.machine) o))) }
+        × (handle.new.value ≡ Some (with_emu (with_change (user_map words.now) o.emu) o))) }
 {
     match handle.take(alloc) {
         None => code::NOTHING,

@@ -2,7 +2,7 @@
 ghost use Rattle.std.specs.Prelude.{◌≡◌, ◌<◌, ◌≤◌, ◌+◌, ◌++◌, drop, length, map, take, IfNone, IfSome, None, Some};
 ghost use Rattle.screen_c.specs.Codes.{NOTHING, OK};
 ghost use Rattle.screen_c.specs.Fed.{IsFed};
-ghost use Rattle.screen_c.specs.Held.{with_machine};
+ghost use Rattle.screen_c.specs.Held.{with_emu};
 ghost use Rattle.screen_c.specs.Shown.{c_out};
 ghost use Rattle.vt_screen.specs.Run.{after, outs_of_option};
 ghost use Rattle.vt_canvas.specs.Screen.{Screen};
@@ -24,8 +24,8 @@ pub extern "C" fn vt_nonnull_screen_feed(
     ensures nothing { IfNone handle.old.value ((result ≡ NOTHING) × (handle.new.value ≡ None)
         × (outs.new ≡ outs.old) × (fed.new ≡ fed.old)) }
     ensures screen { IfSome handle.old.value (λ o. (result ≡ OK)
-        × ((end : Reached Screen) × (handle.new.value ≡ Some (with_machine end o))
-        × IsFed o.machine bytes.now outs.old outs.new fed.new end)) }
+        × ((end : Reached Screen) × (handle.new.value ≡ Some (with_emu end o))
+        × IsFed o.emu bytes.now outs.old outs.new fed.new end)) }
 {
     match handle.take(alloc) {
         None => code::NOTHING,
@@ -47,7 +47,7 @@ pub extern "C" fn vt_nonnull_screen_write(
 ) -> u8
     ensures nothing { IfNone handle.old.value ((result ≡ NOTHING) × (handle.new.value ≡ None)) }
     ensures screen { IfSome handle.old.value (λ o. (result ≡ OK)
-        × (handle.new.value ≡ Some (with_machine (after o.machine bytes.now) o))) }
+        × (handle.new.value ≡ Some (with_emu (after o.emu bytes.now) o))) }
 {
     match handle.take(alloc) {
         None => code::NOTHING,

@@ -65,7 +65,7 @@ pub extern "C" fn vt_screen_resize(
         → (result ≡ RANGE) × (handle.new.value ≡ Some o)) }
     ensures fine { IfSome handle.old.value (λ o. IsSize rows cols
         → ((result ≡ OK)
-        × (handle.new.value ≡ Some (unmarked (with_change (resize rows cols) o.machine))))
+        × (handle.new.value ≡ Some (unmarked (with_change (resize rows cols) o.emu))))
         ⊎ ((result ≡ NO_MEMORY) × (handle.new.value ≡ Some o))) }
 {
     match handle.take(alloc) {
@@ -98,7 +98,7 @@ impl OwnedScreen {
     fn resize(&mut self, alloc: Global, rows: u32, cols: u32) -> u8
         ensures range { ¬ (IsSize rows cols) → (result ≡ RANGE) × (self.new ≡ self.old) }
         ensures fine { IsSize rows cols
-            → ((result ≡ OK) × (self.new ≡ unmarked (with_change (resize rows cols) self.old.machine)))
+            → ((result ≡ OK) × (self.new ≡ unmarked (with_change (resize rows cols) self.old.emu)))
             ⊎ ((result ≡ NO_MEMORY) × (self.new ≡ self.old)) }
     {
         match size_of(rows, cols) {

@@ -38,7 +38,7 @@ pub extern "C" fn vt_lent_screen_changed(loan: &mut ScreenLoan, rows: &mut [u8])
     ensures same { IsSameLoan loan.old loan.new }
     ensures nothing { IfNone loan.old.value ((result ≡ NOTHING) × (rows.new ≡ rows.old)) }
     ensures rows { IfSome loan.old.value (λ o. (result ≡ OK)
-        × (rows.new ≡ with_items (changed_flags o.mark o.machine.state.grid) rows.old)) }
+        × (rows.new ≡ with_items (changed_flags o.mark o.emu.state.grid) rows.old)) }
 {
     let lent = loan.take();
     let answer = match lent.get() {

@@ -21,7 +21,7 @@ pub extern "C" fn vt_lent_screen_picture(
     ensures same { IsSameLoan loan.old loan.new }
     ensures nothing { IfNone loan.old.value ((result ≡ NOTHING) × (text.new ≡ text.old) × (count.new ≡ count.old)) }
     ensures text { IfSome loan.old.value (λ o.
-        HandsOver (picture_text o.machine.state) text.old text.new count.old count.new result) }
+        HandsOver (picture_text o.emu.state) text.old text.new count.old count.new result) }
 {
     let lent = loan.take();
     let answer = match lent.get() {
@@ -34,7 +34,7 @@ pub extern "C" fn vt_lent_screen_picture(
 
 impl OwnedScreen {
     fn picture(&self, alloc: Global, text: &mut [u8], count: &mut usize) -> u8
-        ensures { HandsOver (picture_text self.now.machine.state) text.old text.new count.old count.new result }
+        ensures { HandsOver (picture_text self.now.emu.state) text.old text.new count.old count.new result }
     {
         match picture(alloc, &self.emu) {
             Err(_) => code::NO_MEMORY,

@@ -21,7 +21,7 @@ use vt_grid::Grid;
 pub extern "C" fn vt_lent_screen_state(loan: &mut ScreenLoan, state: &mut VtState) -> u8
     ensures same { IsSameLoan loan.old loan.new }
     ensures nothing { IfNone loan.old.value ((result ≡ NOTHING) × (state.new ≡ state.old)) }
-    ensures state { IfSome loan.old.value (λ o. (result ≡ OK) × (state.new ≡ c_state o.machine.state)) }
+    ensures state { IfSome loan.old.value (λ o. (result ≡ OK) × (state.new ≡ c_state o.emu.state)) }
 {
     let lent = loan.take();
     let answer = match lent.get() {
@@ -45,7 +45,7 @@ pub extern "C" fn vt_lent_screen_cell(
 ) -> u8
     ensures same { IsSameLoan loan.old loan.new }
     ensures nothing { IfNone loan.old.value ((result ≡ NOTHING) × (cell.new ≡ cell.old)) }
-    ensures cell { IfSome loan.old.value (λ o. let grid = o.machine.state.grid in
+    ensures cell { IfSome loan.old.value (λ o. let grid = o.emu.state.grid in
         ((result ≡ OK) × (row < grid.rows) × (col < grid.cols)
         × ((c : Cell) × HasCellAt grid row col c × (cell.new ≡ c_cell c)))
         ⊎ ((result ≡ RANGE) × ((grid.rows ≤ row) ⊎ (grid.cols ≤ col)) × (cell.new ≡ cell.old))) }
@@ -64,7 +64,7 @@ pub extern "C" fn vt_lent_screen_cell(
 pub extern "C" fn vt_lent_screen_row(loan: &mut ScreenLoan, row: u32, cells: &mut [VtCell]) -> u8
     ensures same { IsSameLoan loan.old loan.new }
     ensures nothing { IfNone loan.old.value ((result ≡ NOTHING) × (cells.new ≡ cells.old)) }
-    ensures cells { IfSome loan.old.value (λ o. let grid = o.machine.state.grid in
+    ensures cells { IfSome loan.old.value (λ o. let grid = o.emu.state.grid in
         ((result ≡ OK) × (row < grid.rows)
         × (cells.new ≡ with_items (map c_cell (row_at grid row)) cells.old))
         ⊎ ((result ≡ RANGE) × (grid.rows ≤ row) × (cells.new ≡ cells.old))) }
@@ -89,10 +89,10 @@ pub extern "C" fn vt_lent_screen_row_text(
 ) -> u8
     ensures same { IsSameLoan loan.old loan.new }
     ensures nothing { IfNone loan.old.value ((result ≡ NOTHING) × (text.new ≡ text.old) × (count.new ≡ count.old)) }
-    ensures range { IfSome loan.old.value (λ o. o.machine.state.grid.rows ≤ row
+    ensures range { IfSome loan.old.value (λ o. o.emu.state.grid.rows ≤ row
         → (result ≡ RANGE) × (text.new ≡ text.old) × (count.new ≡ count.old)) }
-    ensures text { IfSome loan.old.value (λ o. row < o.machine.state.grid.rows
-        → HandsOver (flat_map cell_text (row_at o.machine.state.grid row))
+    ensures text { IfSome loan.old.value (λ o. row < o.emu.state.grid.rows
+        → HandsOver (flat_map cell_text (row_at o.emu.state.grid row))
         text.old text.new count.old count.new result) }
 {
     let lent = loan.take();
@@ -106,7 +106,7 @@ pub extern "C" fn vt_lent_screen_row_text(
 
 impl OwnedScreen {
     fn cell(&self, row: u32, col: u32, cell: &mut VtCell) -> u8
-        ensures { let grid = self.now.machine.state.grid in
+        ensures { let grid = self.now.emu.state.grid in
             ((result ≡ OK) × (row < grid.rows) × (col < grid.cols)
             × ((c : Cell) × HasCellAt grid row col c × (cell.new ≡ c_cell c)))
             ⊎ ((result ≡ RANGE) × ((grid.rows ≤ row) ⊎ (grid.cols ≤ col)) × (cell.new ≡ cell.old)) }
@@ -121,7 +121,7 @@ impl OwnedScreen {
     }
 
     fn row(&self, row: u32, cells: &mut [VtCell]) -> u8
-        ensures { let grid = self.now.machine.state.grid in
+        ensures { let grid = self.now.emu.state.grid in
             ((result ≡ OK) × (row < grid.rows)
             × (cells.new ≡ with_items (map c_cell (row_at grid row)) cells.old))
             ⊎ ((result ≡ RANGE) × (grid.rows ≤ row) × (cells.new ≡ cells.old)) }
@@ -135,10 +135,10 @@ impl OwnedScreen {
     }
 
     fn row_text(&self, alloc: Global, row: u32, text: &mut [u8], count: &mut usize) -> u8
-        ensures range { self.now.machine.state.grid.rows ≤ row
+        ensures range { self.now.emu.state.grid.rows ≤ row
             → (result ≡ RANGE) × (text.new ≡ text.old) × (count.new ≡ count.old) }
-        ensures text { row < self.now.machine.state.grid.rows
-            → HandsOver (flat_map cell_text (row_at self.now.machine.state.grid row))
+        ensures text { row < self.now.emu.state.grid.rows
+            → HandsOver (flat_map cell_text (row_at self.now.emu.state.grid row))
             text.old text.new count.old count.new result }
     {
         let grid = self.emu.grid();

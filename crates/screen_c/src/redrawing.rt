@@ -25,13 +25,13 @@ pub extern "C" fn vt_lent_screen_redraw(
 ) -> u8
     ensures same { IsSameLoan loan.old loan.new }
     ensures nothing { IfNone loan.old.value ((result ≡ NOTHING) × (text.new ≡ text.old) × (count.new ≡ count.old)) }
-    ensures undrawable { IfSome loan.old.value (λ o. is_redrawable o.machine.state ≡ false
+    ensures undrawable { IfSome loan.old.value (λ o. is_redrawable o.emu.state ≡ false
         → (result ≡ NOT_DRAWABLE) × (text.new ≡ text.old) × (count.new ≡ count.old)) }
-    ensures text { IfSome loan.old.value (λ o. IsTrue (is_redrawable o.machine.state)
-        → HandsOver (redraw_of o.machine.state) text.old text.new count.old count.new result) }
+    ensures text { IfSome loan.old.value (λ o. IsTrue (is_redrawable o.emu.state)
+        → HandsOver (redraw_of o.emu.state) text.old text.new count.old count.new result) }
     ensures again { IfSome loan.old.value (λ o. result ≡ OK → (other : Screen) → IsWhole other
-        → IsSameSize other.grid o.machine.state.grid
-        → Redraws o.machine.state other (take count.new text.new)) }
+        → IsSameSize other.grid o.emu.state.grid
+        → Redraws o.emu.state other (take count.new text.new)) }
 {
     let lent = loan.take();
     let answer = match lent.get() {
@@ -53,13 +53,13 @@ pub extern "C" fn vt_lent_screen_redraw_changes(
 ) -> u8
     ensures same { IsSameLoan loan.old loan.new }
     ensures nothing { IfNone loan.old.value ((result ≡ NOTHING) × (text.new ≡ text.old) × (count.new ≡ count.old)) }
-    ensures undrawable { IfSome loan.old.value (λ o. is_redrawable o.machine.state ≡ false
+    ensures undrawable { IfSome loan.old.value (λ o. is_redrawable o.emu.state ≡ false
         → (result ≡ NOT_DRAWABLE) × (text.new ≡ text.old) × (count.new ≡ count.old)) }
-    ensures text { IfSome loan.old.value (λ o. IsTrue (is_redrawable o.machine.state)
-        → HandsOver (text_from_mark o.mark o.machine.state) text.old text.new count.old count.new result) }
+    ensures text { IfSome loan.old.value (λ o. IsTrue (is_redrawable o.emu.state)
+        → HandsOver (text_from_mark o.mark o.emu.state) text.old text.new count.old count.new result) }
     ensures again { IfSome loan.old.value (λ o. result ≡ OK → (other : Screen) → IsWhole other
-        → IsAtMark o.mark o.machine.state.grid other.grid
-        → Redraws o.machine.state other (take count.new text.new)) }
+        → IsAtMark o.mark o.emu.state.grid other.grid
+        → Redraws o.emu.state other (take count.new text.new)) }
 {
     let lent = loan.take();
     let answer = match lent.get() {
@@ -72,13 +72,13 @@ pub extern "C" fn vt_lent_screen_redraw_changes(
 
 impl OwnedScreen {
     fn redraw(&self, alloc: Global, text: &mut [u8], count: &mut usize) -> u8
-        ensures undrawable { is_redrawable self.now.machine.state ≡ false
+        ensures undrawable { is_redrawable self.now.emu.state ≡ false
             → (result ≡ NOT_DRAWABLE) × (text.new ≡ text.old) × (count.new ≡ count.old) }
-        ensures text { IsTrue (is_redrawable self.now.machine.state)
-            → HandsOver (redraw_of self.now.machine.state) text.old text.new count.old count.new result }
+        ensures text { IsTrue (is_redrawable self.now.emu.state)
+            → HandsOver (redraw_of self.now.emu.state) text.old text.new count.old count.new result }
         ensures again { result ≡ OK → (other : Screen) → IsWhole other
-            → IsSameSize other.grid self.now.machine.state.grid
-            → Redraws self.now.machine.state other (take count.new text.new) }
+            → IsSameSize other.grid self.now.emu.state.grid
+            → Redraws self.now.emu.state other (take count.new text.new) }
     {
         if !redrawable(&self.emu) {
             return code::NOT_DRAWABLE;
@@ -90,14 +90,14 @@ impl OwnedScreen {
     }
 
     fn redraw_changes(&self, alloc: Global, text: &mut [u8], count: &mut usize) -> u8
-        ensures undrawable { is_redrawable self.now.machine.state ≡ false
+        ensures undrawable { is_redrawable self.now.emu.state ≡ false
             → (result ≡ NOT_DRAWABLE) × (text.new ≡ text.old) × (count.new ≡ count.old) }
-        ensures text { IsTrue (is_redrawable self.now.machine.state)
-            → HandsOver (text_from_mark self.now.mark self.now.machine.state)
+        ensures text { IsTrue (is_redrawable self.now.emu.state)
+            → HandsOver (text_from_mark self.now.mark self.now.emu.state)
             text.old text.new count.old count.new result }
         ensures again { result ≡ OK → (other : Screen) → IsWhole other
-            → IsAtMark self.now.mark self.now.machine.state.grid other.grid
-            → Redraws self.now.machine.state other (take count.new text.new) }
+            → IsAtMark self.now.mark self.now.emu.state.grid other.grid
+            → Redraws self.now.emu.state other (take count.new text.new) }
     {
         if !redrawable(&self.emu) {
             return code::NOT_DRAWABLE;
@@ -109,11 +109,11 @@ impl OwnedScreen {
     }
 
     fn text_from_mark(&self, alloc: Global) -> Result<Bytes, NoMemory>
-        requires { IsTrue (is_redrawable self.now.machine.state) }
-        ensures text { IfOk result (λ text. text.bytes ≡ text_from_mark self.now.mark self.now.machine.state) }
+        requires { IsTrue (is_redrawable self.now.emu.state) }
+        ensures text { IfOk result (λ text. text.bytes ≡ text_from_mark self.now.mark self.now.emu.state) }
         ensures again { IfOk result (λ text. (other : Screen) → IsWhole other
-            → IsAtMark self.now.mark self.now.machine.state.grid other.grid
-            → Redraws self.now.machine.state other text.bytes) }
+            → IsAtMark self.now.mark self.now.emu.state.grid other.grid
+            → Redraws self.now.emu.state other text.bytes) }
     {
         if let Some(mark) = &self.mark {
             if has_same_size(mark, self.emu.grid()) {

@@ -1,5 +1,5 @@
-use crate::keyboard::SessionKeyboard;
-use crate::opening::SessionHeader;
+use crate::session_keyboard::SessionKeyboard;
+use crate::session_header::SessionHeader;
 use crate::process::Process;
 use vt_base::Bytes;
 

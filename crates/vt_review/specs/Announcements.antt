@@ -34,7 +34,7 @@ has_rung w v n = nat_lt (bells_of (terminal_at w.terminals n)) (bells_of (termin
 -- the texts of a console's rows, from top to bottom; none if it isn't allocated
 abbrev pub rows_of : Option TerminalState → List (List ℕ)
 rows_of None = []
-rows_of (Some t) = map row_text t.machine.state.grid.cells
+rows_of (Some t) = map row_text t.emu.state.grid.cells
 
 -- the text is that of a row that was there
 abbrev pub is_text : Option (List ℕ) → List ℕ → Bool

@@ -4,6 +4,7 @@ mod AskingTexts
 mod Changes
 mod CharacterRows
 mod Controls
+mod CursorSteps
 mod Cuts
 mod Edits
 mod FeedRuns
@@ -14,7 +15,6 @@ mod Halved
 mod Hearing
 pub mod InsideTable
 pub mod Insides
-mod Places
 mod Printed
 mod PutBack
 mod Quiet

@@ -182,7 +182,7 @@ impl Emu {
         ensures { HasRun self.old b.now result self.new said.new }
     {
         match b[0] {
-            0x1B => self.take_short_csi(b, said),
+            0x1B => self.take_any_sequence(b, said),
             b'\n' => {
                 said.clear();
                 self.scroll_linefeeds(b)

@@ -2,12 +2,12 @@
 #![tactic(auto)]
 
 pub mod cursor_laws;
+mod cursor_step;
 mod emu;
 mod laws;
 mod leading;
 mod listener;
 mod outs;
-mod place;
 mod telling;
 mod text_laws;
 mod write;

@@ -33,7 +33,7 @@ use Rattle.vt_world.specs.Start.{start_world}
 use Rattle.vt_world.specs.State.{WorldState, HasTerminals, core}
 use Rattle.vt_world.specs.Step.{Outcome, step}
 use Rattle.vt_world.specs.Tapes.{accepted_items, items_of, screen_of, tape_after, tape_from, unless_refused}
-use Rattle.vt_world.specs.Terminals.{TerminalState, altered_by, machine_of, new_terminal, or_new, terminal_at, written_on}
+use Rattle.vt_world.specs.Terminals.{TerminalState, altered_by, emu_of, new_terminal, or_new, terminal_at, written_on}
 use Rattle.vt_world.specs.Wanted.{wanted_in}
 
 -- the laws of runs that the proof uses
@@ -43,7 +43,7 @@ record RunLaws : Type 0 where
 
 -- a terminal shows a tape
 abbrev Shows : ℕ → ℕ → Option TerminalState → Tape → Type 0
-Shows rows cols terminal tape = machine_of terminal ≡ option_map (screen_of rows cols) tape
+Shows rows cols terminal tape = emu_of terminal ≡ option_map (screen_of rows cols) tape
 
 -- new screens have this size, console c has a place, and it shows this tape
 record IsShown (rows cols c new_rows new_cols : ℕ) (terminals : List (Option TerminalState)) (tape : Tape) : Type 0 where
@@ -64,12 +64,12 @@ Keeps rows cols alter add =
 starts_show : (rows cols new_rows new_cols : ℕ) → new_rows ≡ rows → new_cols ≡ cols
     → Keeps rows cols (λ terminal. Some (or_new new_rows new_cols terminal)) begun
 starts_show rows cols new_rows new_cols rows_are cols_are None None shows =
-    ap (λ r. machine_of (Some (new_terminal r new_cols))) rows_are
-    ∙ ap (λ k. machine_of (Some (new_terminal rows k))) cols_are
+    ap (λ r. emu_of (Some (new_terminal r new_cols))) rows_are
+    ∙ ap (λ k. emu_of (Some (new_terminal rows k))) cols_are
 starts_show rows cols new_rows new_cols rows_are cols_are None (Some tape) shows =
     absurd (none-some (screen_of rows cols tape) shows)
 starts_show rows cols new_rows new_cols rows_are cols_are (Some t) None shows =
-    absurd (none-some t.machine (sym shows))
+    absurd (none-some t.emu (sym shows))
 starts_show rows cols new_rows new_cols rows_are cols_are (Some t) (Some tape) shows = shows
 
 clears_show : (rows cols : ℕ) → Keeps rows cols (λ terminal. None) (λ tape. None)
@@ -80,10 +80,10 @@ writes_show : RunLaws → (rows cols : ℕ) (bytes : List ℕ)
 writes_show laws rows cols bytes None None shows = refl
 writes_show laws rows cols bytes None (Some tape) shows =
     absurd (none-some (screen_of rows cols tape) shows)
-writes_show laws rows cols bytes (Some t) None shows = absurd (none-some t.machine (sym shows))
+writes_show laws rows cols bytes (Some t) None shows = absurd (none-some t.emu (sym shows))
 writes_show laws rows cols bytes (Some t) (Some tape) shows =
     ap (λ (m : Reached Screen). Some (after m bytes))
-    (same_Some t.machine (screen_of rows cols tape) shows)
+    (same_Some t.emu (screen_of rows cols tape) shows)
     ∙ ap (λ (m : Reached Screen). Some m)
     (tape_writes laws.stretches laws.cuts rows cols tape bytes)
 
@@ -91,10 +91,10 @@ alters_show : RunLaws → (rows cols : ℕ) (m : Change)
     → Keeps rows cols (option_map (altered_by m)) (taped (change m ∷ []))
 alters_show laws rows cols m None None shows = refl
 alters_show laws rows cols m None (Some tape) shows = absurd (none-some (screen_of rows cols tape) shows)
-alters_show laws rows cols m (Some t) None shows = absurd (none-some t.machine (sym shows))
+alters_show laws rows cols m (Some t) None shows = absurd (none-some t.emu (sym shows))
 alters_show laws rows cols m (Some t) (Some tape) shows =
     ap (λ (at : Reached Screen). Some (with_change m at))
-    (same_Some t.machine (screen_of rows cols tape) shows)
+    (same_Some t.emu (screen_of rows cols tape) shows)
     ∙ ap (λ (at : Reached Screen). Some at) (tape_changes laws.cuts rows cols tape m)
 
 -- such a change at console n, as console c sees it
@@ -108,12 +108,12 @@ seen_change : (rows cols c n : ℕ) (here : Bool) (alter : Option TerminalState 
     → Shows rows cols (terminal_at terminals c) tape
     → Shows rows cols (terminal_at (changed alter n terminals) c) (cond here (add tape) tape)
 seen_change rows cols c n true alter add terminals tape is room keeps shows =
-    ap (λ k. machine_of (terminal_at (changed alter k terminals) c)) (eqb-true n c is)
-    ∙ ap machine_of
+    ap (λ k. emu_of (terminal_at (changed alter k terminals) c)) (eqb-true n c is)
+    ∙ ap emu_of
     (get_or-set_same terminals c (alter (terminal_at terminals c)) None room)
     ∙ keeps (terminal_at terminals c) tape shows
 seen_change rows cols c n false alter add terminals tape is room keeps shows =
-    ap machine_of
+    ap emu_of
     (get_or-set_other terminals n c (alter (terminal_at terminals n)) None (λ e. eqb-false n c is (sym e)))
     ∙ shows
 
@@ -181,7 +181,7 @@ deeds_show laws rows cols c w tape (Own deed ∷ deeds) shown =
     (own_shows laws rows cols c w tape deed shown)
 
 -- there is a tape if the console is allocated
-machine_there : (terminal : Option TerminalState) → is_some (machine_of terminal) ≡ is_some terminal
+machine_there : (terminal : Option TerminalState) → is_some (emu_of terminal) ≡ is_some terminal
 machine_there None = refl
 machine_there (Some t) = refl
 

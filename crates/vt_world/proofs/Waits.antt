@@ -34,12 +34,12 @@ use Rattle.vt_world.specs.Typing.{ends_of, key_deeds, key_on, key_out_deeds, rea
 use Rattle.vt_world.specs.Wanted.{wanted_in}
 
 -- all deeds but a wait
-abbrev pub is_quiet : Deed → Bool
-is_quiet (Own (Waits p ticket)) = false
-is_quiet deed = true
+abbrev pub is_no_wait : Deed → Bool
+is_no_wait (Own (Waits p ticket)) = false
+is_no_wait deed = true
 
-abbrev pub all_quiet : List Deed → Bool
-all_quiet deeds = list_all is_quiet deeds
+abbrev pub none_waits : List Deed → Bool
+none_waits deeds = list_all is_no_wait deeds
 
 apply_mark_age : (m : Mark) (w : WorldState) → AllAge w.callers (apply_mark w m).callers
 apply_mark_age (mark.Asked n) w = all_stay w.callers
@@ -61,7 +61,7 @@ after_request_age : (w : WorldState) (n : Option ℕ) → AllAge w.callers (afte
 after_request_age w None = all_stay w.callers
 after_request_age w (Some n) = after_switch_act_age w (SwitchAct.Request n)
 
-own_age : (w : WorldState) (deed : OwnDeed) → is_quiet (Own deed) ≡ true
+own_age : (w : WorldState) (deed : OwnDeed) → is_no_wait (Own deed) ≡ true
     → AllAge w.callers (apply_own_deed w deed).callers
 own_age w (Puts n piece) quiet =
     elim (comes (input_at w.inputs n).queue piece) as (λ b. AllAge w.callers (cond b (after_input_on n w.callers) w.callers))
@@ -75,79 +75,79 @@ own_age w (Accepts p signal) quiet = with_accepter_age w.callers p signal
 own_age w (Raises p signal) quiet = apply_marks_age (raise (core w) p signal) w
 own_age w deed quiet = all_stay w.callers
 
-apply_deed_age : (w : WorldState) (deed : Deed) → is_quiet deed ≡ true
+apply_deed_age : (w : WorldState) (deed : Deed) → is_no_wait deed ≡ true
     → AllAge w.callers (apply_deed w deed).callers
 apply_deed_age w (By act) quiet = after_switch_act_age w act
 apply_deed_age w (Asks wanted) quiet = after_request_age w (wanted_in w.display wanted)
 apply_deed_age w (Own deed) quiet = own_age w deed quiet
 
-pub apply_deeds_age : (w : WorldState) (deeds : List Deed) → all_quiet deeds ≡ true
+pub apply_deeds_age : (w : WorldState) (deeds : List Deed) → none_waits deeds ≡ true
     → AllAge w.callers (apply_deeds w deeds).callers
 apply_deeds_age w [] quiet = all_stay w.callers
 apply_deeds_age w (deed ∷ deeds) quiet =
-    let parts : (is_quiet deed ≡ true) × (all_quiet deeds ≡ true) =
-    and_parts (is_quiet deed) (all_quiet deeds) quiet in
+    let parts : (is_no_wait deed ≡ true) × (none_waits deeds ≡ true) =
+    and_parts (is_no_wait deed) (none_waits deeds) quiet in
     then_all w.callers (apply_deed w deed).callers (apply_deeds (apply_deed w deed) deeds).callers
     (apply_deed_age w deed parts.0) (apply_deeds_age (apply_deed w deed) deeds parts.1)
 
-append_quiet : (a b : List Deed) → all_quiet a ≡ true → all_quiet b ≡ true
-    → all_quiet (a ++ b) ≡ true
+append_quiet : (a b : List Deed) → none_waits a ≡ true → none_waits b ≡ true
+    → none_waits (a ++ b) ≡ true
 append_quiet a b qa qb =
-    list_all-append is_quiet a b ∙ and_from (all_quiet a) (all_quiet b) qa qb
+    list_all-append is_no_wait a b ∙ and_from (none_waits a) (none_waits b) qa qb
 
-flat_quiet : {A : Type 0} (f : A → List Deed) (xs : List A) → ((x : A) → all_quiet (f x) ≡ true)
-    → all_quiet (flat_map f xs) ≡ true
+flat_quiet : {A : Type 0} (f : A → List Deed) (xs : List A) → ((x : A) → none_waits (f x) ≡ true)
+    → none_waits (flat_map f xs) ≡ true
 flat_quiet f [] quiet = refl
 flat_quiet f (x ∷ xs) quiet = append_quiet (f x) (flat_map f xs) (quiet x) (flat_quiet f xs quiet)
 
-sent_quiet : (p signal : ℕ) → is_quiet (signal_deed p signal) ≡ true
+sent_quiet : (p signal : ℕ) → is_no_wait (signal_deed p signal) ≡ true
 sent_quiet p signal =
-    elim (signal == 9) as (λ b. is_quiet (if b then By (End p) else Own (Raises p signal)) ≡ true)
+    elim (signal == 9) as (λ b. is_no_wait (if b then By (End p) else Own (Raises p signal)) ≡ true)
     [ true ↦ refl | false ↦ refl ]
 
-one_sent : (p signal : ℕ) → all_quiet (signal_deed p signal ∷ []) ≡ true
-one_sent p signal = and_from (is_quiet (signal_deed p signal)) true (sent_quiet p signal) refl
+one_sent : (p signal : ℕ) → none_waits (signal_deed p signal ∷ []) ≡ true
+one_sent p signal = and_from (is_no_wait (signal_deed p signal)) true (sent_quiet p signal) refl
 
-spawn_quiet : (accepter : Option (ℕ × ℕ)) → all_quiet (spawn_deeds accepter) ≡ true
+spawn_quiet : (accepter : Option (ℕ × ℕ)) → none_waits (spawn_deeds accepter) ≡ true
 spawn_quiet None = refl
 spawn_quiet (Some accepter) = one_sent accepter.0 accepter.1
 
-ends_quiet : (processes : List ℕ) (deeds : List Deed) → all_quiet deeds ≡ true
-    → all_quiet (ends_of processes deeds) ≡ true
+ends_quiet : (processes : List ℕ) (deeds : List Deed) → none_waits deeds ≡ true
+    → none_waits (ends_of processes deeds) ≡ true
 ends_quiet [] deeds quiet = quiet
 ends_quiet (p ∷ processes) deeds quiet = ends_quiet processes deeds quiet
 
-key_out_quiet : (w : WorldState) (n : ℕ) (out : KeyOut) → all_quiet (key_out_deeds w n out) ≡ true
+key_out_quiet : (w : WorldState) (n : ℕ) (out : KeyOut) → none_waits (key_out_deeds w n out) ≡ true
 key_out_quiet w n heard_keys.Spawn = spawn_quiet w.callers.accepter
 key_out_quiet w n heard_keys.Attention = ends_quiet (users w n) (By (SetKd n false) ∷ []) refl
 key_out_quiet w n out = refl
 
-key_quiet : (w : WorldState) (k n : ℕ) (e : Option KeyEvent) → all_quiet (key_deeds w k n e) ≡ true
+key_quiet : (w : WorldState) (k n : ℕ) (e : Option KeyEvent) → none_waits (key_deeds w k n e) ≡ true
 key_quiet w k n None = refl
 key_quiet w k n (Some e) = key_out_quiet w n (key_on w k n e).out
 
-scan_quiet : (w : WorldState) (k n b : ℕ) → all_quiet (scan_deeds w k n b) ≡ true
+scan_quiet : (w : WorldState) (k n b : ℕ) → none_waits (scan_deeds w k n b) ≡ true
 scan_quiet w k n b =
     let scanner : Scan = scanner_of w.board.scanners k in
-    let read : all_quiet (read_deeds w k n b) ≡ true =
+    let read : none_waits (read_deeds w k n b) ≡ true =
     key_quiet w k n (event_after scanner.codes scanner.bytes b) in
-    elim ((input_at w.inputs n).keys.mode == 0) as (λ raw. all_quiet (if raw then Own (Puts n (b ∷ [])) ∷ read_deeds w k n b else read_deeds w k n b) ≡ true)
+    elim ((input_at w.inputs n).keys.mode == 0) as (λ raw. none_waits (if raw then Own (Puts n (b ∷ [])) ∷ read_deeds w k n b else read_deeds w k n b) ≡ true)
     [ true ↦ read | false ↦ read ]
 
-out_quiet : (c : ℕ) (out : Out) → all_quiet (out_deeds c out) ≡ true
+out_quiet : (c : ℕ) (out : Out) → none_waits (out_deeds c out) ≡ true
 out_quiet c (outs.Report text) = refl
 out_quiet c out = refl
 
-free_quiet : (w : WorldState) (n : ℕ) → all_quiet (disallocate_deeds w n) ≡ true
+free_quiet : (w : WorldState) (n : ℕ) → none_waits (disallocate_deeds w n) ≡ true
 free_quiet w n =
-    elim (n == 0) as (λ b. all_quiet (if b then flat_map free_deeds (filter (λ c. not (is_in_use w c)) (range_with_len 1 63)) else free_deeds n) ≡ true) [
+    elim (n == 0) as (λ b. none_waits (if b then flat_map free_deeds (filter (λ c. not (is_in_use w c)) (range_with_len 1 63)) else free_deeds n) ≡ true) [
       | true ↦ flat_quiet free_deeds (filter (λ c. not (is_in_use w c)) (range_with_len 1 63)) (λ c. refl)
       | false ↦ refl
     ]
 
 -- what an accepted event does: nothing that is a wait, or just a wait of its caller, which is told so
 pub data RowDoes (p : ℕ) : EventRow → Type 0 where
-  NoWait : (r : EventRow) → all_quiet r.deeds ≡ true → RowDoes p r
+  NoWait : (r : EventRow) → none_waits r.deeds ≡ true → RowDoes p r
   OneWait : (ticket : Ticket) → RowDoes p (record { reply = reply.Wait; deeds = Own (Waits p ticket) ∷ [] })
 
 waits_does : (there : Bool) (p : ℕ) (ticket : Ticket) → RowDoes p (waits_unless there p ticket)

@@ -30,7 +30,7 @@ grid_after_allocation allocated grid = if allocated then grid else None
 -- a screen that is resized onto the grid leaves its old one
 abbrev pub grid_after_resize : Option TerminalState → Option GridView → Option GridView
 grid_after_resize None grid = grid
-grid_after_resize (Some t) grid = Some t.machine.state.grid
+grid_after_resize (Some t) grid = Some t.emu.state.grid
 
 -- the grid that a call leaves of the one that it was lent
 abbrev pub grid_after : WorldState → ℕ → Event → Reply → Option GridView → Option GridView

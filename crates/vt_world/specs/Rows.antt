@@ -125,7 +125,7 @@ act_reply a = reply.Act a.kind a.value
 -- bytes of a terminal's screen, none if there is no terminal
 abbrev pub screen_bytes : (Screen → List ℕ) → Option TerminalState → List ℕ
 screen_bytes bytes None = []
-screen_bytes bytes (Some t) = bytes t.machine.state
+screen_bytes bytes (Some t) = bytes t.emu.state
 
 -- a dump of a kind: 0 the characters, 1 with size, cursor and attributes, 2 the code points
 abbrev pub dump_of : ℕ → Screen → List ℕ

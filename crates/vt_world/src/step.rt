@@ -20,11 +20,11 @@ impl World {
         requires fits { Fits self.old.rows self.old.cols event.now spare }
         ensures step { HasOutcome (step self.old caller event.now) self.new result.0 }
         ensures bytes { length (text_of_reply result.0) ≤ greatest_reply event.now }
-        ensures unused { result.1 ≡ spare.unused }
+        ensures for_copy { result.1 ≡ spare.for_copy }
     {
         let mut spare = spare;
         let answer = self.step_with(caller, event, &mut spare);
-        (answer, spare.unused)
+        (answer, spare.for_copy)
     }
 
     /// The same step with memory that is lent. The grid stays if the event doesn't use it; if a screen
@@ -35,7 +35,7 @@ impl World {
         ensures bytes { length (text_of_reply result) ≤ greatest_reply event.now }
         ensures grid { spare.new.grid ≡ grid_after self.old caller event.now result spare.old.grid }
         ensures reply { spare.new.reply ≡ empty_with 0 }
-        ensures unused { spare.new.unused ≡ spare.old.unused }
+        ensures for_copy { spare.new.for_copy ≡ spare.old.for_copy }
     {
         let reply = spare.take_reply();
         self.step_on(caller, event, &mut spare.grid, reply)

@@ -112,7 +112,7 @@ impl Canvas {
 
     /// Goes to a row and a column; in origin mode the row is counted from the region's first one.
     #[tactic(auto, unfolding(crate::specs::Cursor::cursor_to_in_region))]
-    pub(super) fn place(&mut self, row: u16, column: u32)
+    pub(super) fn move_to_in_region(&mut self, row: u16, column: u32)
         ensures { self.new ≡ cursor_to_in_region row column self.old }
     {
         let first = self.first_row();
@@ -140,7 +140,7 @@ impl Canvas {
     pub(super) fn home(&mut self)
         ensures { self.new ≡ cursor_home self.old }
     {
-        self.place(0, 0);
+        self.move_to_in_region(0, 0);
     }
 
     // The first row that a move reaches.
