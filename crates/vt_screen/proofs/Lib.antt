@@ -1,30 +1,14 @@
-mod Asking
-mod AskingTable
-mod AskingTexts
 mod Changes
-mod CharacterRows
 mod Controls
 mod CursorSteps
 mod Cuts
-mod Edits
 mod FeedRuns
 mod Feeds
-mod FollowWide
 mod Fronts
-mod Halved
 mod Hearing
-pub mod InsideTable
-pub mod Insides
 mod Printed
-mod PutBack
 mod Quiet
-mod RowEdits
 mod Sequences
 mod Shown
-mod TapeCharacters
-mod TapeHalves
-mod TapeInside
-mod Tapes
-mod TextEnds
-mod TextRows
 mod TextSteps
+pub mod for_laws

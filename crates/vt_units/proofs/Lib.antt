@@ -1,13 +1,9 @@
 mod Bases
 mod Begun
 mod Bodies
-mod Broken
 mod Bytewise
 mod Comes
 mod Commons
-mod Completes
-pub mod Cutting
-mod Drops
 mod Empties
 mod Fields
 mod Follows
@@ -19,7 +15,6 @@ mod Openers
 mod Opens
 mod Piecewise
 mod Printables
-mod Prints
 mod Readings
 mod Rests
 pub mod Runs
@@ -30,3 +25,4 @@ mod Sizes
 mod Steps
 mod Walks
 pub mod Wholes
+pub mod for_laws

@@ -1,4 +1,4 @@
-use Rattle.vt_redraw.proofs.ReachedCells.{tape_cells_are_drawable}
+use Rattle.vt_redraw.proofs.for_laws.ReachedCells.{tape_cells_are_drawable}
 use Rattle.vt_redraw.proofs.laws.cells_are_drawable.Goals as goal
 
 pub returns : goal.returns

@@ -1,4 +1,4 @@
-use Rattle.vt_screen.proofs.TapeCharacters.{tapes_keep_characters}
+use Rattle.vt_screen.proofs.for_laws.TapeCharacters.{tapes_keep_characters}
 use Rattle.vt_screen.proofs.laws.tapes_keep_characters.Goals as goal
 
 pub returns : goal.returns
