@@ -10,7 +10,7 @@ word of no call or of another row, nothing is written, and the status is 1.
 
 --check only compares, apart from blanks, commas and ends of lines, and names each list that differs. It also compares
 the words of each call with the table of calls in docs/JOURNAL.md. If anything differs, the status is 1. Run `rt fmt` in
-vt_events and unit_tests afterwards. The checker proves that the lists are equal to the definitions.
+vt_events and call_tests afterwards. The checker proves that the lists are equal to the definitions.
 """
 import pathlib
 import re
@@ -143,7 +143,7 @@ def lists(calls):
     yield proofs, "pub each_kind : (k : Kind) → Contains kinds k\n", BLANK_LINE, 0, [found, f"each_kind k = {other}"]
     kinds = textwrap.wrap(" ".join(f"kind.{it.name}+∷" for it in calls) + " []", 96)
     yield proofs, "kinds =\n", BLANK_LINE, 4, [line.replace("+", " ") for line in kinds]
-    words = CRATES / "unit_tests/src/tests/journals/all_words.rt"
+    words = CRATES / "call_tests/src/tests/journals/all_words.rt"
     yield words, "const CALLS: &[(&[u8], &str)] = &[\n", "];\n", 4, all_words(calls, words)
 
 

@@ -1,5 +1,5 @@
 #!/usr/bin/env python3
-"""Checks the pictures that crates/example_picture draws, by what SVG and docs/SCREEN.md want of them.
+"""Checks the pictures that crates/picture draws, by what SVG and docs/SCREEN.md want of them.
 
 usage: check_picture.py [--picture PATH] [--vt PATH] [--browser PATH] [--streams N]
 

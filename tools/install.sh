@@ -48,7 +48,7 @@ case $libdir in
 esac
 
 # The crate and the installed name of each program.
-programs='vt:vt:vt watch:example_watch:vt-watch picture:example_picture:vt-picture redraw:example_redraw:vt-redraw'
+programs='vt:vt:vt watch:watch:vt-watch picture:picture:vt-picture redraw:redraw:vt-redraw'
 commit=$(git -C "$top" describe --always '--dirty=, changed' --abbrev=40 '--exclude=*' 2> /dev/null) || commit=unknown
 toolchain=$(rt version 2> /dev/null) || toolchain='a toolchain that is unknown'
 made=$(mktemp)

@@ -104,13 +104,13 @@ def check_drawing(bench, vt, program):
         bench.holds(cursor == outer_cursor, f"the cursor of screen {number}: {cursor}, {outer_cursor}")
         try:
             drawn = bench.run([find("picture"), ROWS, COLS], written).stdout
-            bench.holds(picture.read_bytes() == drawn, f"the picture of screen {number} is that of example_picture")
+            bench.holds(picture.read_bytes() == drawn, f"the picture of screen {number} is that of picture")
         except Missing:
             bench.holds(picture.read_bytes().startswith(b"<svg "), "the picture is written")
 
 
 def check_picture(bench, program):
-    """The picture of a recording is the stored one, which crates/example_picture drew."""
+    """The picture of a recording is the stored one, which crates/picture drew."""
     picture, recording = bench.folder / "files.svg", TOP / "examples/pictures/files"
     terminal = Terminal([program, "--picture", picture, "sh", "-c", f"stty -opost; cat {recording}"], 25, 80)
     bench.holds(terminal.end() == 0, "term.c draws a recording")

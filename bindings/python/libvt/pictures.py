@@ -12,7 +12,7 @@ import subprocess
 
 SECONDS = 60
 # The places of the program in a clone: proved, and as tools/build.py makes it.
-IN_CLONE = ("crates/example_picture/out/example_picture", "out/bin/picture")
+IN_CLONE = ("crates/picture/out/picture", "out/bin/picture")
 
 
 class NoPicture(Exception):
