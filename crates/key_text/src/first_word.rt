@@ -6,11 +6,11 @@ use crate::fault::KeyError;
 use crate::fault_kind::UNKNOWN_WORD;
 use crate::key_lines::{keys_line, modified_line, weight_of};
 use crate::keymaps_line::keymaps_line;
+use crate::placed::{Place, Placed};
+use crate::statement::Statement;
 use crate::word_lines::{
     alt_is_meta_line, charset_line, compose_line, include_line, string_line, usual_strings_line,
 };
-use crate::placed::{Place, Placed};
-use crate::statement::Statement;
 use crate::words::{check_utf8, fault, is_word, place_of_word};
 use std::alloc::Global;
 

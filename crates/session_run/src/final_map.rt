@@ -2,7 +2,7 @@
 ghost use Rattle.std.specs.Prelude.{◌≡◌, ℕ, ◌+◌, ◌<◌, ◌++◌, length, IfOk, OnOk, slice_index_or, vec_len};
 ghost use Rattle.session_run.specs.Final.{consoles_text, final_text, text_at};
 
-use crate::final_texts::{add_display, add_console_part};
+use crate::final_texts::{add_console_part, add_display};
 use std::alloc::Global;
 use std::thread::{Threads, map_indices};
 use vt_base::{Bytes, NoMemory};
@@ -36,7 +36,12 @@ fn console_parts<R: Threads + Sync>(
     ensures each { IfOk result (λ parts. (i : ℕ) (d : _) → i < 63
         → IfOk (slice_index_or parts.items i d) (λ part. part.bytes ≡ text_at world.now (i + 1))) }
 {
-    let parts = map_indices(rt, alloc, CONSOLES, &|i: usize| console_part(alloc, world, i))?;
+    let parts = map_indices(
+        rt,
+        alloc,
+        CONSOLES,
+        &|i: usize| console_part(alloc, world, i),
+    )?;
     Ok(parts)
 }
 

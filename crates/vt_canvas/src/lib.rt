@@ -9,8 +9,6 @@ mod screen_state;
 mod side_effect;
 mod stops;
 
-use vt_cells::Cell;
-
 pub use canvas::Canvas;
 pub use out::Out;
 pub use report_text::ReportText;
@@ -18,6 +16,7 @@ pub use saved::Saved;
 pub use screen_state::ScreenState;
 pub use side_effect::SideEffect;
 pub use stops::Stops;
+use vt_cells::Cell;
 
 /// A blank cell: a space, white on black. This project's own.
 pub const BLANK: Cell = Cell {

@@ -20,7 +20,6 @@ use Rattle.vt_units.specs.Run.{effects_of, make_reached, run}
 use Rattle.vt_units.specs.declared.mode.Mode.{Mode}
 use Rattle.vt_units.specs.declared.read.Read.{Read}
 
-
 -- a line feed leaves the mode
 newline_mode : (s : Screen) → mode_of (newline s) ≡ mode_of s
 newline_mode s =

@@ -11,8 +11,8 @@ mod changes;
 mod same;
 mod sequences;
 
-use crate::leading::line_feeds;
 use crate::Outs;
+use crate::leading::line_feeds;
 use std::marker::Model;
 use vt_canvas::{Canvas, ScreenState, SideEffect};
 use vt_cells::{Palette, columns_are_few};

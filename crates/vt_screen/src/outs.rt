@@ -1,10 +1,9 @@
 ghost use Rattle.std.specs.Prelude.{◌≡◌, ◌<◌, ◌≤◌, ◌+◌, [], ◌∷◌, ◌++◌, length};
 ghost use Rattle.vt_screen.specs.Run.{outs_of_option};
 
-use vt_canvas::Out;
-use vt_canvas::SideEffect;
 use arrayvec::ArrayVec;
 use std::marker::Model;
+use vt_canvas::{Out, SideEffect};
 
 /// The side effects of at most 64 bytes, in order. Each byte has at most one.
 #[derive(Drop)]

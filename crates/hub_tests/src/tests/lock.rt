@@ -10,12 +10,12 @@ ghost use Rattle.turn_lock.specs.declared.view.Role.TheVariants.{Caller};
 ghost use Rattle.std.proofs.Common.{rules};
 ghost use Rattle.turn_lock.specs.declared.entry.Entry.{Entry};
 
-use turn_lock::{Kept, Pass, TurnLock};
 use std::alloc::Global;
 use std::sync::Wait;
 use std::test::Fail;
 use std::thread;
 use std::thread::Threads;
+use turn_lock::{Kept, Pass, TurnLock};
 use vt_base::NoMemory;
 
 // The display before the first line.

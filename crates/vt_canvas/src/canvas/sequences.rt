@@ -88,7 +88,10 @@ impl Canvas {
             b'E' => self.move_to(self.row() + u32::from(count_of(first)), 0),
             b'F' => self.move_to(self.row().saturating_sub(u32::from(count_of(first))), 0),
             b'G' | b'`' => self.move_to(self.row(), u32::from(first.saturating_sub(1))),
-            b'H' | b'f' => self.move_to_in_region(first.saturating_sub(1), u32::from(second.saturating_sub(1))),
+            b'H' | b'f' => self.move_to_in_region(
+                first.saturating_sub(1),
+                u32::from(second.saturating_sub(1)),
+            ),
             b'J' => self.erase_display(first),
             b'K' => self.erase_line(first),
             b'L' => self.insert_lines(count_of(first)),
