@@ -9,7 +9,7 @@ from tool_files import Stop, reason
 
 SECONDS = 120
 CALLS = 10_000
-# The words of the two dumps (docs/JOURNAL.md).
+# The words of the two dumps (docs/reference/journal.md).
 ATTRIBUTES, CODES = "dump 1 1", "dump 2 1"
 HALF = 0x110000
 

@@ -4,7 +4,7 @@ import pathlib
 import sys
 
 TOP = pathlib.Path(__file__).resolve().parent.parent
-FOLDER = TOP / "bindings/python"
+FOLDER = TOP / "libvt/bindings/python"
 
 
 def run(module, missing):

@@ -5,7 +5,7 @@ usage: tools/quick_tests.py [--built] [--jobs N]
 
 First tools/build.py builds what has changed; with --built the programs of out/bin are taken as they stand. Then the
 worked cases, crates/cases/stdin, are answered by out/bin/cases and compared with crates/cases/stdout, case by case, and
-the checks of tools/ are run with the programs of out/bin, N at a time (as many as there are processors). None needs a
+the checks are run with the programs of out/bin, N at a time (as many as there are processors). None needs a
 network. A check without its tools, such as a C compiler, is left out, and a line names it.
 
 Prints a line for each kind of case and for each check, with the output of one that fails, and last 'N passed, M
@@ -23,6 +23,9 @@ import time
 sys.dont_write_bytecode = True
 
 from programs import CRATES, ONLY_PROVED, TOP  # noqa: E402: after the line that keeps tools/ clean
+
+sys.path.insert(1, str(TOP / "dev"))
+from repository import path_of  # noqa: E402: after its folder
 
 FOLDER = TOP / "crates/cases"
 BUILT = TOP / "out/bin"
@@ -43,6 +46,7 @@ CHECKS = [
     ["check_hostile.py 20", "check_redraw.py 40", "check_drill.py", "check_switches.py", "check_picture.py"],
     ["engines.py vt --cut --first", "make_conformance.py --check"],
     ["check_promises.py", "check_proved.py", "check_lemmas.py", "api.py --check"],
+    ["check_names.py", "crates_map.py --check", "case_input.py --check"],
     ["key_index.py --check", "call_lists.py --check"],
 ]
 
@@ -109,7 +113,7 @@ def run_check(check):
     begun = time.monotonic()
     try:
         ran = subprocess.run(
-            [TOP / "tools" / check.split()[0], *check.split()[1:]], cwd=TOP, stdin=subprocess.DEVNULL,
+            [path_of(check.split()[0]), *check.split()[1:]], cwd=TOP, stdin=subprocess.DEVNULL,
             stdout=subprocess.PIPE, stderr=subprocess.STDOUT, timeout=SECONDS, check=False,
             env=environment())  # fmt: skip
         status, lines = ran.returncode, ran.stdout.decode("utf-8", "replace").splitlines()

@@ -1,4 +1,4 @@
--- The result of a scan byte or a key as C gets it. The numbers of the kinds are those of include/vt.h.
+-- The result of a scan byte or a key as C gets it. The numbers of the kinds are those of libvt/include/vt.h.
 use Rattle.std.specs.Prelude.{ℕ, ◌++◌, [], List, length, drop}
 use Rattle.key_machine.specs.declared.key_out.KeyOut.{KeyOut}
 use Rattle.key_machine.specs.declared.key_out.KeyOut.TheVariants.{Attention, Bytes, Last, Next, Nothing, Prev, Spawn, Switch}

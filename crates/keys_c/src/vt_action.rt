@@ -6,7 +6,7 @@ use key_syms::Action;
 /// `VT_ACTION_NO_TABLE`: the kind if there is no such table.
 const NO_TABLE: u16 = 14;
 
-/// The action of a key: a kind and a value (docs/KEYS.md, "Actions").
+/// The action of a key: a kind and a value (docs/reference/keys.md, "Actions").
 #[repr(C)]
 #[derive(Clone, Copy, Debug, PartialEq, Eq)]
 pub(crate) struct VtAction {

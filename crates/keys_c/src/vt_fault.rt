@@ -2,7 +2,7 @@ ghost use Rattle.std.specs.Prelude.{◌≡◌};
 
 use key_text::KeyFault;
 
-/// The first fault of a keymap text: its line and column, both from 1, and its kind (docs/KEYS.md).
+/// The first fault of a keymap text: its line and column, both from 1, and its kind (docs/reference/keys.md).
 #[repr(C)]
 #[derive(Clone, Copy, Debug, PartialEq, Eq)]
 pub(crate) struct VtFault {

@@ -1,4 +1,4 @@
-//! The screen machine for programs in C: `vt_screen` of `include/vt.h`.
+//! The screen machine for programs in C: `vt_screen` of `libvt/include/vt.h`.
 #![tactic(auto)]
 
 mod code;

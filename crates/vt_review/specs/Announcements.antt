@@ -1,5 +1,5 @@
 -- The notices that ears get of a history: the switches of the display, bells, and new rows of the console that
--- has the display. This project's own: docs/REVIEW.md.
+-- has the display. This project's own: docs/reference/review.md.
 use Rattle.std.specs.Prelude.{ℕ, ◌+◌, Bool, false, nat_lt, List, [], ◌∷◌, ◌++◌, Option, Some, None, bytes_eq, decimal, filter, map, slice_get, if◌then◌else◌}
 use Rattle.std.specs.List.{flat_map, range_with_len}
 use Rattle.vt_dump.specs.Rows.{row_text}

@@ -1,4 +1,4 @@
--- The lines of a review. This project's own: docs/REVIEW.md.
+-- The lines of a review. This project's own: docs/reference/review.md.
 use Rattle.std.specs.Prelude.{ℕ, ◌+◌, ◌==◌, List, [], ◌∷◌, ◌++◌, codes, decimal, if◌then◌else◌}
 use Rattle.vt_journal.specs.Text.{blank_before_each}
 use Rattle.vt_review.specs.Ears.{says}

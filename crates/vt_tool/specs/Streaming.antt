@@ -1,4 +1,4 @@
--- The drawing of a source on a screen: docs/PROGRAM.md, "Order".
+-- The drawing of a source on a screen: docs/reference/program.md, "Order".
 use Rattle.std.specs.Prelude.{◌≡◌, ◌↔◌, ℕ, Bool, IsTrue, ◌<◌, ◌≤◌, List, length, take, Result, Ok, Err, Some}
 use Rattle.vt_io.specs.Faults.{Rose}
 use Rattle.vt_io.specs.Stream.{Stream}

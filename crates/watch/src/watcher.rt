@@ -22,7 +22,7 @@ use vt_explain::{Explained, HopWhy, explain};
 use vt_journal::{Journal, Log};
 use vt_world::World;
 
-/// The text with the facts of each entry of the journal, if it is a legal one of the session (docs/WATCH.md).
+/// The text with the facts of each entry of the journal, if it is a legal one of the session (docs/reference/watch.md).
 pub(crate) fn watch_text(
     alloc: Global,
     form: Form,

@@ -1,4 +1,4 @@
-//! The parts of calls, by the table of calls in docs/JOURNAL.md.
+//! The parts of calls, by the table of calls in docs/reference/journal.md.
 use super::checks::check_made;
 use std::alloc::Global;
 use vt_base::{Bytes, NoMemory};

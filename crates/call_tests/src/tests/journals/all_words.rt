@@ -1,4 +1,4 @@
-//! The words of every call and every answer, by the table in docs/JOURNAL.md.
+//! The words of every call and every answer, by the table in docs/reference/journal.md.
 use super::answer::Answer;
 use crate::tests::checks::check_made;
 use std::alloc::Global;
