@@ -1,9 +1,9 @@
-//! An example of the library: a program that draws a stream on a screen and prints the screen as a picture in SVG.
+//! Draws a stream on a screen, and prints the screen as a picture in SVG.
 //!
 //!     picture R C < STREAM > PICTURE.svg
 //!
-//! R and C are the rows and columns, from 1 to 255 each. It ends with status 0, or with a line on standard error and status 1
-//! for other words, 2 if a read fails, 3 if a write fails, and 4 if memory runs out.
+//! R and C are the rows and columns, from 1 to 255 each. It ends with status 0, or with a line on standard error and
+//! status 1 for other words, 2 if a read fails, 3 if a write fails, and 4 if memory runs out.
 #![tactic(auto)]
 
 mod drawing;
