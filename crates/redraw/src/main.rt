@@ -1,5 +1,5 @@
-//! An example of the library: a screen as a text that draws it again. The arguments are rows and columns, from 1 to 255
-//! each. The input is any text; the output is the text that draws the screen that the input made, in a terminal.
+//! Prints the text that draws a screen again, in any terminal of its size. The screen is the one that the input makes;
+//! the arguments are its rows and columns, from 1 to 255 each.
 #![tactic(auto)]
 
 mod drawing;

@@ -1,4 +1,4 @@
-//! An example of the library: a program that prints what each call of a session did (docs/reference/watch.md).
+//! Prints what each call of a session did (docs/reference/watch.md).
 //!
 //!     watch [json] < FILE
 //!
