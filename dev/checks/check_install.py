@@ -33,7 +33,7 @@ INSTALLERS = ("install.sh", "release.sh", "user_tools.py", "programs.py", "tool_
 # What the tools run besides their own programs.
 OTHERS = ("env", "sh", "cat", "sed", "true")
 PAGES = ["man1/vt.1", "man1/vt-tools.1", "man3/vt.3", "man5/vt-session.5", "man5/vt-journal.5", "man5/vt-keymap.5"]
-LIBRARY = ("libvt/include/vt.h", "lib/libvt.a", "lib/libvt.so.1", "lib/libvt.so", "lib/pkgconfig/vt.pc")
+LIBRARY = ("include/vt.h", "lib/libvt.a", "lib/libvt.so.1", "lib/libvt.so", "lib/pkgconfig/vt.pc")
 TEST = """SIZE 2 10
 PUSH "hello"
 ?row 0 = "hello"

@@ -218,7 +218,7 @@ def check_install(bench):
     environment = {**os.environ, "DESTDIR": str(below)}
     install = [TOP / "tools/install.sh", "--unproved"]
     ran = bench.ends_well([*install, "/opt/vt"], "install.sh", env=environment)
-    library = ["libvt/include/vt.h", "lib/libvt.a", "lib/libvt.so", "lib/libvt.so.1", "lib/pkgconfig/vt.pc"]
+    library = ["include/vt.h", "lib/libvt.a", "lib/libvt.so", "lib/libvt.so.1", "lib/pkgconfig/vt.pc"]
     for name in [*library, "share/man/man3/vt.3", "share/man/man1/vt.1"]:
         bench.holds((below / "opt/vt" / name).exists() and name in ran.stdout.decode(), f"install.sh installs {name}")
     prefix = (below / "opt/vt/lib/pkgconfig/vt.pc").read_text().splitlines()[0]
