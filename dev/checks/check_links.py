@@ -3,8 +3,9 @@
 
 A link is `[text](target)` outside code. Its target is a path from the page's folder, a heading as `#words-of-it`, or
 both; an address with a scheme, as https:, is not looked up. A path from the top of the repository, in any file that git
-keeps (a crate's comment, a tool, a manual page), has to lead to a file. Prints a line for each link or path that leads
-nowhere and for each page that no link leads to, and ends with status 1 if there is one.
+keeps (a crate's comment, a tool, a manual page), has to lead to a file; that of the installed header is no such path.
+Prints a line for each link or path that leads nowhere and for each page that no link leads to, and ends with status 1
+if there is one.
 """
 import pathlib
 import re
@@ -23,6 +24,8 @@ PATH = re.compile(
     r"(?<![\w/.$-])(?:docs|dev|libvt|tools|examples|man|bench|models|bindings|include)/"
     r"[\w/.-]+\.(?:md|py|sh|c|h|rs|pml|toml|[135])\b(?![\w/-]|\.\w)"
 )
+# Where the header is in an installed library.
+INSTALLED = "include/vt.h"
 # Files that have paths of others: recordings, and what changed.
 NOT_READ = re.compile(r"CHANGELOG\.md|examples/(?:pictures|recordings|tests)/.*|.*\.svg")
 LEFT_OUT = ("out", ".git", "node_modules")
@@ -76,7 +79,8 @@ def path_faults():
         is_read = file.is_file() and not NOT_READ.fullmatch(name)
         text = file.read_bytes().decode("utf-8", "replace") if is_read else ""
         for number, line in enumerate(text.splitlines(), 1):
-            yield from (f"{name}:{number}: no file {it}" for it in PATH.findall(line) if not (TOP / it).exists())
+            paths = (it for it in PATH.findall(line) if it != INSTALLED and not (TOP / it).exists())
+            yield from (f"{name}:{number}: no file {it}" for it in paths)
 
 
 def reached():
