@@ -14,7 +14,8 @@ import re
 import shutil
 import sys
 
-TOP = pathlib.Path(__file__).resolve().parent.parent
+from programs import TOP
+
 HANDLES = TOP / "HANDLES"
 LEFT_OUT = ("out",)
 

@@ -23,11 +23,13 @@ if sys.version_info < (3, 10):
     print("engines: Python 3.10 or later was wanted", file=sys.stderr)
     sys.exit(2)
 
-from conformance import compare, cutdown, engine_list, page  # noqa: E402: after the line that keeps tools/ clean
+from programs import TOP, Missing, find  # noqa: E402: after the line that keeps tools/ clean
+
+sys.path.insert(1, str(TOP / "dev/engines"))
+from conformance import compare, cutdown, engine_list, page  # noqa: E402: after its folder
 from conformance.adapters import SECONDS  # noqa: E402
 from conformance.forms import PAGE, Fault, read_corpus  # noqa: E402
 from conformance.words import in_words, part_in_words  # noqa: E402
-from programs import Missing, find  # noqa: E402
 
 MOST_SECONDS = 3600
 

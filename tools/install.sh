@@ -10,10 +10,10 @@
 # clone isn't needed afterwards. PREFIX/share/vt/BUILD names what was installed, of which commit, and whether it is
 # proved.
 #
-# `rt run` in crates/vt makes the proved program and tools/build_c.sh the library. What isn't there, or isn't proved, is
-# named and left out; with --unproved the programs and the library that tools/build.py made are installed in its place.
-# Statuses: 0 installed; 1 the words aren't of the form, there is neither a program nor the library, or a file can't be
-# written.
+# `rt run` in crates/vt makes the proved program and libvt/tools/build_c.sh the library. What isn't there, or isn't
+# proved, is named and left out; with --unproved the programs and the library that tools/build.py made are installed in
+# its place. Statuses: 0 installed; 1 the words aren't of the form, there is neither a program nor the library, or a
+# file can't be written.
 set -eu
 
 usage='usage: install.sh [--unproved] PREFIX [LIBDIR=FOLDER] [DESTDIR=FOLDER]'
@@ -48,7 +48,7 @@ case $libdir in
 esac
 
 # The crate and the installed name of each program.
-programs='vt:vt:vt watch:example_watch:vt-watch picture:example_picture:vt-picture redraw:example_redraw:vt-redraw
+programs='vt:vt:vt watch:watch:vt-watch picture:picture:vt-picture redraw:redraw:vt-redraw
 explore:explore:vt-explore'
 commit=$(git -C "$top" describe --always '--dirty=, changed' --abbrev=40 '--exclude=*' 2> /dev/null) || commit=unknown
 toolchain=$(rt version 2> /dev/null) || toolchain='a toolchain that is unknown'
@@ -76,12 +76,12 @@ chosen() {
 # The folder of the library, if it is to be installed. Its line of the file BUILD is kept.
 chosen_library() {
     if [ ! -f "$top/out/c/lib/libvt.a" ]; then
-        echo "install.sh: the library isn't built, and is left out: tools/build_c.sh makes it" >&2
+        echo "install.sh: the library isn't built, and is left out: libvt/tools/build_c.sh makes it" >&2
     elif grep -q '^libvt: proved' "$top/out/c/BUILD" 2> /dev/null || [ -n "$unproved" ]; then
         echo "$top/out/c"
         cat "$top/out/c/BUILD" >> "$made" 2> /dev/null || echo "libvt: not proved" >> "$made"
     else
-        echo "install.sh: the library isn't proved, and is left out: tools/build_c.sh proves it;" \
+        echo "install.sh: the library isn't proved, and is left out: libvt/tools/build_c.sh proves it;" \
             "--unproved installs it" >&2
     fi
 }
@@ -144,7 +144,8 @@ for row in $programs; do
     fi
 done
 [ -n "$found" ] ||
-    stop "nothing that may be installed is built: rt run in crates/vt makes the program, tools/build_c.sh the library"
+    stop "nothing that may be installed is built: rt run in crates/vt makes the program," \
+        "libvt/tools/build_c.sh the library"
 [ -z "$library" ] || put_library "$library"
 put_tools
 for page in "$top"/man/*.[1-9]; do

@@ -1,4 +1,4 @@
-"""The meanings of the symbols and the character sets of kbd 2.5.1. Written by tools/list_kbd_names.py."""
+"""The meanings of the symbols and the character sets of kbd 2.5.1. Written by dev/gen/list_kbd_names.py."""
 
 # The names of characters past ASCII, each before its number.
 CHARACTERS = """

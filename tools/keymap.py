@@ -1,5 +1,5 @@
 #!/usr/bin/env python3
-"""Brings a keymap of kbd, console-data or ckbcomp into the profile that vt reads (docs/KEYS.md).
+"""Brings a keymap of kbd, console-data or ckbcomp into the profile that vt reads (docs/reference/keys.md).
 
 usage: tools/keymap.py [--charset C] [--search DIR]... [--usual] [--strict] FILE > my.keymap
 
@@ -117,7 +117,8 @@ def ranges(numbers):
 
 
 def alone(action, table):
-    """Returns what a symbol that stands alone on a line does in a table (docs/KEYS.md, "What a keycode does")."""
+    """Returns what a symbol that stands alone on a line does in a table (docs/reference/keys.md, "What a keycode
+    does")."""
     kind, value = action
     if kind not in (CHARACTER, LETTER) or value > 127 or not chr(value).isalpha():
         return action

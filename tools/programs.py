@@ -29,7 +29,7 @@ from tool_files import Stop
 
 TOP = pathlib.Path(__file__).resolve().parent.parent
 # The crate of each program.
-CRATES = {"vt": "vt", "watch": "example_watch", "picture": "example_picture", "redraw": "example_redraw", "explore": "explore"}
+CRATES = {"vt": "vt", "watch": "watch", "picture": "picture", "redraw": "redraw", "explore": "explore"}
 ONLY_PROVED = "VT_PROVED"
 
 

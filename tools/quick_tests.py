@@ -5,7 +5,7 @@ usage: tools/quick_tests.py [--built] [--jobs N]
 
 First tools/build.py builds what has changed; with --built the programs of out/bin are taken as they stand. Then the
 worked cases, crates/cases/stdin, are answered by out/bin/cases and compared with crates/cases/stdout, case by case, and
-the checks of tools/ are run with the programs of out/bin, N at a time (as many as there are processors). None needs a
+the checks are run with the programs of out/bin, N at a time (as many as there are processors). None needs a
 network. A check without its tools, such as a C compiler, is left out, and a line names it.
 
 Prints a line for each kind of case and for each check, with the output of one that fails, and last 'N passed, M
@@ -24,6 +24,9 @@ sys.dont_write_bytecode = True
 
 from programs import CRATES, ONLY_PROVED, TOP  # noqa: E402: after the line that keeps tools/ clean
 
+sys.path.insert(1, str(TOP / "dev"))
+from repository import path_of  # noqa: E402: after its folder
+
 FOLDER = TOP / "crates/cases"
 BUILT = TOP / "out/bin"
 CASES = BUILT / "cases"
@@ -31,10 +34,11 @@ LIBRARY = TOP / "out/c/lib/libvt.a"
 SECONDS = 300
 SHOWN_LINES = 25
 OF_C = "header,codes,cuts,outs,memory,threads,keys,faults,terminal,python,install,guide"
+OVER_LIBRARY = ("check_c.py", "check_expect.py", "check_python.py")
 # The checks, in groups that aren't run side by side: those of a group write the same files. The longest come first.
 CHECKS = [
     ["check_streams.py"],
-    ["check_expect.py --damaged 30"],
+    ["check_expect.py --damaged 30", "check_python.py"],
     [f"check_c.py --library out/c --runs 200 --only {OF_C}"],
     ["check_timeline.py", "check_explore.py"],
     ["check_pages.py", "check_watch.py 10", "check_keymaps.py 50", "check_why.py 100", "check_blocks.py"],
@@ -42,6 +46,7 @@ CHECKS = [
     ["check_hostile.py 20", "check_redraw.py 40", "check_drill.py", "check_switches.py", "check_picture.py"],
     ["engines.py vt --cut --first", "make_conformance.py --check"],
     ["check_promises.py", "check_proved.py", "check_lemmas.py", "api.py --check"],
+    ["check_names.py", "crates_map.py --check", "case_input.py --check"],
     ["key_index.py --check", "call_lists.py --check"],
 ]
 
@@ -92,7 +97,7 @@ def run_cases():
 
 def is_left_out(check):
     """Why a check isn't run, or nothing."""
-    if check.startswith("check_c.py") and not LIBRARY.exists():
+    if check.startswith(OVER_LIBRARY) and not LIBRARY.exists():
         return "the C library isn't built"
     return ""
 
@@ -108,7 +113,7 @@ def run_check(check):
     begun = time.monotonic()
     try:
         ran = subprocess.run(
-            [TOP / "tools" / check.split()[0], *check.split()[1:]], cwd=TOP, stdin=subprocess.DEVNULL,
+            [path_of(check.split()[0]), *check.split()[1:]], cwd=TOP, stdin=subprocess.DEVNULL,
             stdout=subprocess.PIPE, stderr=subprocess.STDOUT, timeout=SECONDS, check=False,
             env=environment())  # fmt: skip
         status, lines = ran.returncode, ran.stdout.decode("utf-8", "replace").splitlines()

@@ -26,7 +26,8 @@ to=${1-$top/out}
 mkdir -p "$to" || stop "$to can't be made"
 
 "$top/tools/programs.py" $proved vt watch picture redraw explore > /dev/null || stop "a program is missing"
-grep -q "^libvt: ${proved:+proved}" "$top/out/c/BUILD" || stop "out/c has no such library: tools/build_c.sh makes it"
+grep -q "^libvt: ${proved:+proved}" "$top/out/c/BUILD" ||
+    stop "out/c has no such library: libvt/tools/build_c.sh makes it"
 changed=$(git -C "$top" status --porcelain --untracked-files=no) || stop "$top is no clone"
 [ -z "$changed" ] || stop "files were changed since the commit: $(echo "$changed" | head -n 3 | tr '\n' ' ')"
 if [ -n "$proved" ]; then

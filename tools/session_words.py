@@ -1,7 +1,7 @@
 """The words of sessions: the calls and hooks of a process, the keys of the tables, and the requests of Linux.
 
-A part of tools/why.py. tools/check_pages.py compares CALLS with docs/JOURNAL.md, the keys with docs/SESSIONS.md and
-docs/TYPING.md, and REQUESTS with docs/COMPATIBILITY.md.
+A part of tools/why.py. dev/checks/check_pages.py compares CALLS with docs/reference/journal.md, the keys with
+docs/reference/sessions.md and docs/reference/typing.md, and REQUESTS with docs/reference/compatibility.md.
 """
 
 # The words of each call: HH is a byte, B is bytes, and every other word after the first is a number.

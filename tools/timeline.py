@@ -1,5 +1,5 @@
 #!/usr/bin/env python3
-"""Draws what `watch json` prints of a session (docs/WATCH.md) as one page of HTML.
+"""Draws what `watch json` prints of a session (docs/reference/watch.md) as one page of HTML.
 
     watch json < SESSION.toml | tools/timeline.py > PAGE.html
     tools/timeline.py [--title TEXT] [--svg] [--vt PATH] [-o PAGE.html] [JSON]

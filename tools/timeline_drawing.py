@@ -37,7 +37,7 @@ def hue_of(caller):
 
 
 def is_refused(entry):
-    """An error that isn't that of a wait which ended (docs/SWITCHING.md, "The law of refusals")."""
+    """An error that isn't that of a wait which ended (docs/reference/switching.md, "The law of refusals")."""
     return entry["error"] is not None and (entry["call"], entry["error"]) != ("waitend", "EINTR")
 
 

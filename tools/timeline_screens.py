@@ -8,8 +8,7 @@ import itertools
 import re
 import struct
 
-from console_play import ATTRIBUTES, CODES, Console, bytes_of
-from expect import shown_character
+from console_play import ATTRIBUTES, CODES, Console, bytes_of, shown_character
 from tool_files import Stop
 
 SCREEN = re.compile(r"%screen (\d+) (\d+) (\d+) (\d+) (\d+) (\d+)")

@@ -1,5 +1,5 @@
 #!/usr/bin/env python3
-"""Writes a session whose `turns` are words as one with numbers (docs/SESSIONS.md), counted by playing.
+"""Writes a session whose `turns` are words as one with numbers (docs/reference/sessions.md), counted by playing.
 
     tools/turns.py SESSION.toml > NUMBERED.toml
 
@@ -216,7 +216,7 @@ class Scripts:
 
 
 def items_made(players, scripts, caller):
-    """How many items the caller has called (docs/SESSIONS.md, "Programs")."""
+    """How many items the caller has called (docs/reference/sessions.md, "Programs")."""
     calls = players.made(caller)
     if caller[0] == "k":
         return sum(1 for _, call, _ in calls if call != "exit")

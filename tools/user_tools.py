@@ -3,26 +3,33 @@
 
 usage: tools/user_tools.py [--names]
 
-Each line is a file, by its path from the top of the clone: the tools, the modules of tools/ that they import, and the
-data that these read. With --names each line is the name of an installed tool and its file. Status 1: a file is missing.
+Each line is a file, by its path from the top of the clone: the tools, the modules of the repository that they import,
+and the data that these read. With --names each line is the name of an installed tool and its file. Status 1: a file is
+missing.
 """
 import ast
 import pathlib
 import sys
 
-TOP = pathlib.Path(__file__).resolve().parent.parent
-TOOLS = TOP / "tools"
+from programs import TOP
+
+# The folders of the tools and of the modules that they import.
+FOLDERS = (TOP / "tools", TOP / "dev/engines")
+TOOLS = FOLDERS[0]
 NAMES = {
-    "vt-record": "record.py", "vt-expect": "expect.py", "vt-keymap": "keymap.py", "vt-why": "why.py",
-    "vt-compare-keymap": "compare_keymap.py", "vt-turns": "turns.py", "vt-timeline": "timeline.py",
+    "vt-record": "record.py", "vt-expect": "expect.py", "vt-animation": "animation.py", "vt-keymap": "keymap.py",
+    "vt-why": "why.py", "vt-compare-keymap": "compare_keymap.py", "vt-turns": "turns.py", "vt-timeline": "timeline.py",
     "vt-engines": "engines.py",
 }  # fmt: skip
 # What a module reads besides Python.
 DATA = {
-    "timeline.py": ["tools/timeline*.css", "tools/timeline*.js"],
-    "vt_names.py": ["crates/key_syms/src/table.rt", "crates/key_syms/src/index.rt"],
-    "conformance/forms.py": ["examples/conformance/[a-z]*"],
-    "conformance/engine_list.py": ["tools/conformance/*.[ch]", "tools/conformance/pyte_adapter.py"],
+    "package.py": ["libvt/bindings/python/libvt/*.py", "libvt/bindings/python/libvt/py.typed", "libvt/bindings/python/pytest_libvt.py"],
+    "tools/timeline.py": ["tools/timeline*.css", "tools/timeline*.js"],
+    "tools/vt_names.py": ["crates/key_syms/src/table.rt", "crates/key_syms/src/index.rt"],
+    "dev/engines/conformance/forms.py": ["examples/conformance/[a-z]*"],
+    "dev/engines/conformance/engine_list.py": [
+        "dev/engines/conformance/*.[ch]", "dev/engines/conformance/pyte_adapter.py",
+    ],
 }
 
 
@@ -32,13 +39,13 @@ def modules_in(file):
     for node in ast.walk(ast.parse(file.read_text(encoding="utf-8"))):
         if isinstance(node, ast.Import):
             for name in node.names:
-                yield TOOLS / name.name.replace(".", "/")
+                yield from (it / name.name.replace(".", "/") for it in FOLDERS)
         elif isinstance(node, ast.ImportFrom):
-            base = folder if node.level else TOOLS
-            base = base / (node.module or "").replace(".", "/")
-            yield base
-            for name in node.names:
-                yield base / name.name
+            for base in [folder] if node.level else FOLDERS:
+                base = base / (node.module or "").replace(".", "/")
+                yield base
+                for name in node.names:
+                    yield base / name.name
 
 
 def files_of(module):
@@ -58,7 +65,7 @@ def needed():
             wanted += [it for module in modules_in(file) for it in files_of(module)]
     data = set()
     for file in found:
-        for pattern in DATA.get(str(file.relative_to(TOOLS)), ()):
+        for pattern in DATA.get(str(file.relative_to(TOP)), ()):
             matching = sorted(TOP.glob(pattern))
             if not matching:
                 raise FileNotFoundError(f"{pattern}, which {file} reads, isn't there")

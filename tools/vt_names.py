@@ -2,10 +2,11 @@
 
 A part of tools/keymap.py and of the tools that judge it.
 """
-import pathlib
 import re
 
-SOURCE = pathlib.Path(__file__).resolve().parent.parent / "crates/key_syms/src"
+from programs import TOP
+
+SOURCE = TOP / "crates/key_syms/src"
 
 
 def numbers(index, name):

@@ -1,4 +1,5 @@
-"""Reads what `watch json` prints (docs/WATCH.md): one object a line, an entry each, and last the object of the end.
+"""Reads what `watch json` prints (docs/reference/watch.md): one object a line, an entry each, and last the object of
+the end.
 
 What isn't of that form is refused with its line: `line 3: owners[0].owner: wanted a process, found 'k0'`.
 """

@@ -68,7 +68,7 @@ REASONS = {
     6: "the certificate is not accepted at this item",
 }
 STATUSES = {
-    "usage": 'the words are none of vt\'s commands: docs/PROGRAM.md has them',
+    "usage": 'the words are none of vt\'s commands: docs/reference/program.md has them',
     "read failed": "standard input can't be read",
     "write failed": "standard output or standard error can't be written: a full disk, or a reader that went away",
     "no memory": "memory ran out",

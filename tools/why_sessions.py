@@ -102,11 +102,11 @@ def about_call(item):
         return f"{name} is no item of a script: {NOT_IN_SCRIPTS[name]}."
     if name.upper() in REQUESTS:
         call = REQUESTS[name.upper()]
-        none = f"vt has no call for {name.upper()} (docs/COMPATIBILITY.md has why)."
+        none = f"vt has no call for {name.upper()} (docs/reference/compatibility.md has why)."
         return f"{name.upper()} is the call `{FORMS[call]}`." if call else none
     if name not in FORMS:
         close = [f"`{FORMS[it]}`" for it in near(name, [call for call in FORMS if call not in NOT_IN_SCRIPTS])]
-        hint = f"is it {list_of(close)}?" if close else "docs/JOURNAL.md has the calls."
+        hint = f"is it {list_of(close)}?" if close else "docs/reference/journal.md has the calls."
         return f"There is no call {name}: {hint}"
     wanted = FORMS[name].split()[1:]
     if name == "say":

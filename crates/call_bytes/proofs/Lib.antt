@@ -1,5 +1,3 @@
-pub mod Again
-pub mod Blocks
-pub mod KeptBytes
 pub mod Tables
 pub mod Texts
+pub mod for_laws

@@ -1,9 +1,8 @@
 pub mod FreshLaws
 pub mod KeptLaws
 pub mod KindLaws
-pub mod Pushes
 pub mod ReadLaws
-pub mod ReadingLaws
 pub mod SizeLaws
 pub mod StandLaws
 pub mod TurnLaws
+pub mod for_laws

@@ -4,7 +4,8 @@ use std::alloc::Global;
 use vt_base::{Bytes, NoMemory};
 use vt_journal::{Tail, print_entry, print_first, print_tail};
 
-/// The lines that were written, with the number of their entries and the sum of their charges.
+/// The lines that were written, with the number of their entries and the sum of their charges, each at most the
+/// greatest of its type.
 #[derive(Drop)]
 pub(crate) struct Written {
     lines: Bytes,

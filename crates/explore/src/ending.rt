@@ -17,7 +17,7 @@ pub(crate) enum Failure {
 }
 
 impl Failure {
-    /// The exit status (docs/codes.md).
+    /// The exit status (docs/reference/codes.md).
     pub(crate) fn status(self) -> u8 {
         let (status, _) = self.told();
         status

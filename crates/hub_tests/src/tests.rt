@@ -1,3 +1,4 @@
 mod console;
 mod hub;
+mod lock;
 mod typing;

@@ -2,7 +2,7 @@
 use Rattle.std.proofs.Common.{◌≡◌, ℕ, suc, zero, ◌+◌, ◌<◌, ◌≤◌, Bool, true, false, ◌||◌, cond, List, [], ◌∷◌, ◌++◌, length, take, replicate, append-nil, refl, sym, ap, ◌∙◌, arith}
 use Rattle.std.proofs.lemmas.List.{get_or-replicate, length-replicate}
 use Rattle.std.specs.List.{list_any, slice_index_or}
-use Rattle.key_text.specs.KeymapLine.{Telling, KeymapLine}
+use Rattle.key_text.specs.KeymapLine.{LineMeaning, KeymapLine}
 use Rattle.key_compile.specs.Union.{IsSetOf, in_union, passing_below, union_of}
 
 -- the tables below t that pass were added
@@ -17,7 +17,7 @@ pub record SetBelow (marks : List Bool) (test : ℕ → Bool) (t : ℕ) : Type 0
   pub each : (k : ℕ) → k < t → slice_index_or marks k false ≡ test k
 
 -- the marks of a union, and of what the first lines name
-pub marked_none : (names : ℕ → Telling → Bool) (lines : List KeymapLine) (marks : List Bool) → marks ≡ replicate 256 false → IsSetOf marks (λ t. false || list_any (λ l. names t l.telling) (take 0 lines))
+pub marked_none : (names : ℕ → LineMeaning → Bool) (lines : List KeymapLine) (marks : List Bool) → marks ≡ replicate 256 false → IsSetOf marks (λ t. false || list_any (λ l. names t l.meaning) (take 0 lines))
 marked_none names lines marks e = record {
   full = ap length e ∙ length-replicate 256 false;
   each = λ t h. ap (λ ms. slice_index_or ms t false) e ∙ get_or-replicate 256 t false false h;

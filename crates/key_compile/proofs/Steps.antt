@@ -63,11 +63,11 @@ or_moved None y z = refl
 or_moved (Some a) y z = refl
 
 -- the lines so far, and one more
-decided_more : (union : List ℕ) (lines : List KeymapLine) (l : KeymapLine) (t c : ℕ) → last_action union (lines ++ l ∷ []) t c ≡ option_or (gives union l.telling t c) (last_action union lines t c)
+decided_more : (union : List ℕ) (lines : List KeymapLine) (l : KeymapLine) (t c : ℕ) → last_action union (lines ++ l ∷ []) t c ≡ option_or (gives union l.meaning t c) (last_action union lines t c)
 decided_more union [] l t c = search rules
-decided_more union (m ∷ lines) l t c = ap (λ x. option_or x (gives union m.telling t c)) (decided_more union lines l t c) ∙ or_moved (gives union l.telling t c) (last_action union lines t c) (gives union m.telling t c)
+decided_more union (m ∷ lines) l t c = ap (λ x. option_or x (gives union m.meaning t c)) (decided_more union lines l t c) ∙ or_moved (gives union l.meaning t c) (last_action union lines t c) (gives union m.meaning t c)
 
-pub decided_next : (union : List ℕ) (lines : List KeymapLine) (i : ℕ) (d : KeymapLine) → i < length lines → (t c : ℕ) → option_or (gives union (get_or lines i d).telling t c) (last_action union (take i lines) t c) ≡ last_action union (take (i + 1) lines) t c
+pub decided_next : (union : List ℕ) (lines : List KeymapLine) (i : ℕ) (d : KeymapLine) → i < length lines → (t c : ℕ) → option_or (gives union (get_or lines i d).meaning t c) (last_action union (take i lines) t c) ≡ last_action union (take (i + 1) lines) t c
 decided_next union lines i d h t c =
     sym (ap (λ ls. last_action union ls t c) (take_more lines i d h) ∙ decided_more union (take i lines) (get_or lines i d) t c)
 

@@ -20,11 +20,11 @@ texts_same f g old new same puts = search rules
 pub texts_join : (f g : ℕ → Option (List ℕ)) (old middle new : Tables) → PutsTexts f old middle → PutsTexts g middle new → PutsTexts (λ i. option_or (g i) (f i)) old new
 texts_join f g old middle new first second = search rules
 
-last_more : (lines : List KeymapLine) (l : KeymapLine) (i : ℕ) → last_text (lines ++ l ∷ []) i ≡ option_or (text_by l.telling i) (last_text lines i)
+last_more : (lines : List KeymapLine) (l : KeymapLine) (i : ℕ) → last_text (lines ++ l ∷ []) i ≡ option_or (text_by l.meaning i) (last_text lines i)
 last_more [] l i = search rules
-last_more (m ∷ lines) l i = ap (λ x. option_or x (text_by m.telling i)) (last_more lines l i) ∙ or_moved (text_by l.telling i) (last_text lines i) (text_by m.telling i)
+last_more (m ∷ lines) l i = ap (λ x. option_or x (text_by m.meaning i)) (last_more lines l i) ∙ or_moved (text_by l.meaning i) (last_text lines i) (text_by m.meaning i)
 
-pub last_next : (lines : List KeymapLine) (k : ℕ) (d : KeymapLine) → k < length lines → (i : ℕ) → option_or (text_by (get_or lines k d).telling i) (last_text (take k lines) i) ≡ last_text (take (k + 1) lines) i
+pub last_next : (lines : List KeymapLine) (k : ℕ) (d : KeymapLine) → k < length lines → (i : ℕ) → option_or (text_by (get_or lines k d).meaning i) (last_text (take k lines) i) ≡ last_text (take (k + 1) lines) i
 last_next lines k d h i = sym (ap (λ ls. last_text ls i) (take_more lines k d h) ∙ last_more (take k lines) (get_or lines k d) i)
 
 pub rows_usual : UsualStringsAreKept

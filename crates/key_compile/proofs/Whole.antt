@@ -10,7 +10,7 @@ use Rattle.key_syms.specs.Act.{Act, act}
 use Rattle.key_syms.specs.Kinds.{HOLE, META}
 use Rattle.key_syms.specs.declared.pair.Pair.{Pair}
 use Rattle.key_tables.specs.Tables.{IsEmpty, IsWhole, Tables, entry_of, exists_in, func_of, hole, with_pairs}
-use Rattle.key_text.specs.KeymapLine.{Telling, KeymapLine, keymaps, keys, one, string, compose, alt_is_meta, usual_strings, usual_pairs}
+use Rattle.key_text.specs.KeymapLine.{LineMeaning, KeymapLine, keymaps, keys, one, string, compose, alt_is_meta, usual_strings, usual_pairs}
 use Rattle.key_text.specs.declared.fault.KeyFault.{KeyFault}
 use Rattle.key_compile.specs.Compiled.{AreStart, AreTablesOf}
 use Rattle.key_compile.specs.Entries.{last_action, entry_in, is_alt, is_ascii_act, line_entry, meta_over}
@@ -72,7 +72,7 @@ length-usual = refl
 few_of : (count : ℕ) → pairs_fault count ≡ None → count ≤ 256
 few_of count e = ltb-false 256 count (no_choice (nat_lt 256 count) 10 e)
 
-few : (n : ℕ) (seen : Bool) (count : ℕ) (telling : Telling) → fault_of n seen count telling ≡ None → count ≤ 256 → (count + pairs_of_line telling ≤ 256) × (length (pairs_by telling) ≡ pairs_of_line telling)
+few : (n : ℕ) (seen : Bool) (count : ℕ) (meaning : LineMeaning) → fault_of n seen count meaning ≡ None → count ≤ 256 → (count + pairs_of_line meaning ≤ 256) × (length (pairs_by meaning) ≡ pairs_of_line meaning)
 few n seen count (keymaps tables) e h = (omega arith, refl)
 few n seen count (keys code actions) e h = (omega arith, refl)
 few n seen count (one table code action) e h = (omega arith, refl)
@@ -85,11 +85,11 @@ few n seen count usual_pairs e h = (few_of (count + 66) e, length-usual)
 pairs_few : (n : ℕ) (seen : Bool) (count : ℕ) (lines : List KeymapLine) → first_fault n seen count lines ≡ None → count ≤ 256 → count + length (pairs_in lines) ≤ 256
 pairs_few n seen count [] e h = omega arith
 pairs_few n seen count (l ∷ ls) e h =
-    let parts = no_fault l (fault_of n seen count l.telling) (first_fault n (seen || is_key l.telling) (count + pairs_of_line l.telling) ls) e in
-    let these = few n seen count l.telling parts.0 h in
-    let rest = pairs_few n (seen || is_key l.telling) (count + pairs_of_line l.telling) ls parts.1 these.0 in
-    let long = length-append (pairs_by l.telling) (pairs_in ls) in
-    together count (length (pairs_in (l ∷ ls))) (length (pairs_by l.telling)) (length (pairs_in ls)) (pairs_of_line l.telling) long these.1 rest
+    let parts = no_fault l (fault_of n seen count l.meaning) (first_fault n (seen || is_key l.meaning) (count + pairs_of_line l.meaning) ls) e in
+    let these = few n seen count l.meaning parts.0 h in
+    let rest = pairs_few n (seen || is_key l.meaning) (count + pairs_of_line l.meaning) ls parts.1 these.0 in
+    let long = length-append (pairs_by l.meaning) (pairs_in ls) in
+    together count (length (pairs_in (l ∷ ls))) (length (pairs_by l.meaning)) (length (pairs_in ls)) (pairs_of_line l.meaning) long these.1 rest
   where
     together : (count all first others adds : ℕ) → all ≡ first + others → first ≡ adds → count + adds + others ≤ 256 → count + all ≤ 256
     together count all first others adds p q r = omega arith
@@ -133,17 +133,17 @@ unfolding meta_at
 meta_there k t c h j =
     cc (le-leb 1 c h, lt-ltb c 256 j)
 
-entry_last : (lines : List KeymapLine) (k1 k2 : Tables) → ((t c : ℕ) → t < 256 → entry_of k1 t c ≡ cond (is_declared lines t) (Some (line_entry lines t c)) None) → Puts (λ t c. cond (list_any (λ l. is_alt l.telling) lines) (metas_below k1 8 t c) None) k1 k2 → (t c : ℕ) → t < 256 → 1 ≤ c → c < 256 → entry_of k2 t c ≡ cond (is_declared lines t) (Some (entry_in lines t c)) None
+entry_last : (lines : List KeymapLine) (k1 k2 : Tables) → ((t c : ℕ) → t < 256 → entry_of k1 t c ≡ cond (is_declared lines t) (Some (line_entry lines t c)) None) → Puts (λ t c. cond (list_any (λ l. is_alt l.meaning) lines) (metas_below k1 8 t c) None) k1 k2 → (t c : ℕ) → t < 256 → 1 ≤ c → c < 256 → entry_of k2 t c ≡ cond (is_declared lines t) (Some (entry_in lines t c)) None
 unfolding entry_in metas_below
 entry_last lines k1 k2 first metas t c h i j =
     grind (arith, with_meta, range_low, meta_there)
 
-pub finish : (lines : List KeymapLine) (union : List ℕ) (pairs : List Pair) (k0 k1 k2 k3 k4 : Tables) → AreStart lines k0 → union ≡ union_of lines → Puts (last_action union lines) k0 k1 → Puts (λ t c. cond (list_any (λ l. is_alt l.telling) lines) (metas_below k1 8 t c) None) k1 k2 → PutsTexts (last_text lines) k2 k3 → k4 ≡ with_pairs k3 pairs → pairs ≡ pairs_in lines → IsWhole k4 → AreTablesOf lines k4
+pub finish : (lines : List KeymapLine) (union : List ℕ) (pairs : List Pair) (k0 k1 k2 k3 k4 : Tables) → AreStart lines k0 → union ≡ union_of lines → Puts (last_action union lines) k0 k1 → Puts (λ t c. cond (list_any (λ l. is_alt l.meaning) lines) (metas_below k1 8 t c) None) k1 k2 → PutsTexts (last_text lines) k2 k3 → k4 ≡ with_pairs k3 pairs → pairs ≡ pairs_in lines → IsWhole k4 → AreTablesOf lines k4
 finish lines union pairs k0 k1 k2 k3 k4 start e puts metas texts is same whole = record {
   whole = whole;
   exist = λ t h.
       ap (λ maps. exists_in (record { maps = maps; funcs = []; pairs = [] }) t) (ap (λ (k : Tables). k.maps) is ∙ texts.maps)
-      ∙ puts_exist (λ u d. cond (list_any (λ l. is_alt l.telling) lines) (metas_below k1 8 u d) None) k1 k2 metas t
+      ∙ puts_exist (λ u d. cond (list_any (λ l. is_alt l.meaning) lines) (metas_below k1 8 u d) None) k1 k2 metas t
       ∙ puts_exist (last_action union lines) k0 k1 puts t
       ∙ start.exist t h;
   entries = λ t c h i j.

@@ -11,7 +11,7 @@ is_dumpable tables = list_any is_some tables.maps && list_all is_real tables.pai
 
 -- each line is fit, as those that are read are
 abbrev pub AreFit : List KeymapLine → Type 0
-AreFit lines = All (λ l. IsTrue (is_fit l.telling)) lines
+AreFit lines = All (λ l. IsTrue (is_fit l.meaning)) lines
 
 -- the tables of lines can be written
 abbrev pub CompiledAreDumpable : Type 0

@@ -5,7 +5,7 @@ use Rattle.std.specs.Option.{option_or}
 use Rattle.key_syms.specs.Act.{Act, act}
 use Rattle.key_syms.specs.Kinds.{HOLE, META}
 use Rattle.key_tables.specs.Tables.{hole}
-use Rattle.key_text.specs.KeymapLine.{Telling, KeymapLine, keymaps, keys, one, string, compose, alt_is_meta, usual_strings, usual_pairs}
+use Rattle.key_text.specs.KeymapLine.{LineMeaning, KeymapLine, keymaps, keys, one, string, compose, alt_is_meta, usual_strings, usual_pairs}
 use Rattle.key_compile.specs.Fill.{filled_action, is_character_act}
 use Rattle.key_compile.specs.Union.{is_declared, union_of}
 
@@ -27,7 +27,7 @@ by_symbols union (a ∷ []) t = everywhere union a t
 by_symbols union (a ∷ b ∷ rest) t = action_of_table union (a ∷ b ∷ rest) t
 
 -- the action that a line gives a table and a code, if it names them
-abbrev pub gives : List ℕ → Telling → ℕ → ℕ → Option Act
+abbrev pub gives : List ℕ → LineMeaning → ℕ → ℕ → Option Act
 gives union (keymaps tables) t c = None
 gives union (keys code actions) t c = cond (c == code) (by_symbols union actions t) None
 gives union (one table code action) t c = cond (t == table && c == code) (Some action) None
@@ -40,14 +40,14 @@ gives union usual_pairs t c = None
 -- the action by the last line that names a table and a code
 abbrev pub last_action : List ℕ → List KeymapLine → ℕ → ℕ → Option Act
 last_action union [] t c = None
-last_action union (l ∷ ls) t c = option_or (last_action union ls t c) (gives union l.telling t c)
+last_action union (l ∷ ls) t c = option_or (last_action union ls t c) (gives union l.meaning t c)
 
 -- the entry by the lines: a hole if none names it
 unfoldable pub line_entry : List KeymapLine → ℕ → ℕ → Act
 line_entry lines t c = unwrap_or (last_action (union_of lines) lines t c) hole
 
 -- a line `alt_is_meta`
-abbrev pub is_alt : Telling → Bool
+abbrev pub is_alt : LineMeaning → Bool
 is_alt (keymaps tables) = false
 is_alt (keys code actions) = false
 is_alt (one table code action) = false
@@ -69,7 +69,7 @@ meta_over below a =
 -- the entry of a table and a code: tables 8 to 15 are filled from those without Alt
 unfoldable pub entry_in : List KeymapLine → ℕ → ℕ → Act
 entry_in lines t c =
-    cond (list_any (λ l. is_alt l.telling) lines && (nat_le 8 t && nat_lt t 16)
+    cond (list_any (λ l. is_alt l.meaning) lines && (nat_le 8 t && nat_lt t 16)
     && is_declared lines (t - 8))
     (meta_over (line_entry lines (t - 8) c) (line_entry lines t c))
     (line_entry lines t c)

@@ -2,7 +2,7 @@
 use Rattle.std.specs.Prelude.{ℕ, List, [], ◌∷◌, ◌++◌, codes}
 use Rattle.std.specs.List.{flat_map}
 use Rattle.key_syms.specs.declared.pair.Pair.{Pair}
-use Rattle.key_text.specs.KeymapLine.{Telling, KeymapLine, keymaps, keys, one, string, compose, alt_is_meta, usual_strings, usual_pairs}
+use Rattle.key_text.specs.KeymapLine.{LineMeaning, KeymapLine, keymaps, keys, one, string, compose, alt_is_meta, usual_strings, usual_pairs}
 
 -- the pairs of accents, bases and results that stand at the same places of three texts
 abbrev pub pairs_of : List ℕ → List ℕ → List ℕ → List Pair
@@ -30,7 +30,7 @@ usual =
     ++ with_bases 0x2C (codes "Cc") (codes "Çç")
     ++ pairs_of (codes "AaOosAa--Tt<>?!") (codes "Ee//sAaDdHh<>?!") (codes "ÆæØøßÅåÐðÞþ«»¿¡")
 
-abbrev pub pairs_by : Telling → List Pair
+abbrev pub pairs_by : LineMeaning → List Pair
 pairs_by (keymaps tables) = []
 pairs_by (keys code actions) = []
 pairs_by (one table code action) = []
@@ -41,4 +41,4 @@ pairs_by usual_strings = []
 pairs_by usual_pairs = usual
 
 abbrev pub pairs_in : List KeymapLine → List Pair
-pairs_in lines = flat_map (λ l. pairs_by l.telling) lines
+pairs_in lines = flat_map (λ l. pairs_by l.meaning) lines

@@ -2,7 +2,7 @@
 use Rattle.std.specs.Prelude.{ℕ, ◌==◌, cond, Option, Some, None, unwrap_or, List, [], ◌∷◌, ◌++◌, codes, map, slice_index_or}
 use Rattle.std.specs.Fmt.{decimal}
 use Rattle.std.specs.Option.{option_or}
-use Rattle.key_text.specs.KeymapLine.{Telling, KeymapLine, keymaps, keys, one, string, compose, alt_is_meta, usual_strings, usual_pairs}
+use Rattle.key_text.specs.KeymapLine.{LineMeaning, KeymapLine, keymaps, keys, one, string, compose, alt_is_meta, usual_strings, usual_pairs}
 
 -- a text, if it isn't empty
 abbrev pub some_text : List ℕ → Option (List ℕ)
@@ -31,7 +31,7 @@ unfoldable pub usual_string : ℕ → Option (List ℕ)
 usual_string i = some_text (slice_index_or usual_texts i [])
 
 -- the string that a line gives a function key, if it names it
-abbrev pub text_by : Telling → ℕ → Option (List ℕ)
+abbrev pub text_by : LineMeaning → ℕ → Option (List ℕ)
 text_by (keymaps tables) i = None
 text_by (keys code actions) i = None
 text_by (one table code action) i = None
@@ -44,7 +44,7 @@ text_by usual_pairs i = None
 -- the string by the last line that names a function key
 abbrev pub last_text : List KeymapLine → ℕ → Option (List ℕ)
 last_text [] i = None
-last_text (l ∷ ls) i = option_or (last_text ls i) (text_by l.telling i)
+last_text (l ∷ ls) i = option_or (last_text ls i) (text_by l.meaning i)
 
 -- the string of a function key
 abbrev pub string_in : List KeymapLine → ℕ → List ℕ

@@ -1,10 +1,10 @@
 -- The tables that the lines of a keymap declare.
 use Rattle.std.specs.Prelude.{◌≡◌, ℕ, zero, suc, ◌<◌, Bool, true, false, ◌==◌, ◌||◌, cond, nat_le, List, [], ◌∷◌, ◌++◌, length, slice_index_or}
 use Rattle.std.specs.List.{list_any}
-use Rattle.key_text.specs.KeymapLine.{Telling, KeymapLine, keymaps, keys, one, string, compose, alt_is_meta, usual_strings, usual_pairs}
+use Rattle.key_text.specs.KeymapLine.{LineMeaning, KeymapLine, keymaps, keys, one, string, compose, alt_is_meta, usual_strings, usual_pairs}
 
 -- a line `keymaps`
-abbrev pub is_keymaps : Telling → Bool
+abbrev pub is_keymaps : LineMeaning → Bool
 is_keymaps (keymaps tables) = true
 is_keymaps (keys code actions) = false
 is_keymaps (one table code action) = false
@@ -15,7 +15,7 @@ is_keymaps usual_strings = false
 is_keymaps usual_pairs = false
 
 -- a line `keymaps` that has the table
-abbrev pub names_table : ℕ → Telling → Bool
+abbrev pub names_table : ℕ → LineMeaning → Bool
 names_table t (keymaps tables) = slice_index_or tables t false
 names_table t (keys code actions) = false
 names_table t (one table code action) = false
@@ -26,7 +26,7 @@ names_table t usual_strings = false
 names_table t usual_pairs = false
 
 -- a line with modifier words for the table
-abbrev pub modifies_table : ℕ → Telling → Bool
+abbrev pub modifies_table : ℕ → LineMeaning → Bool
 modifies_table t (keymaps tables) = false
 modifies_table t (keys code actions) = false
 modifies_table t (one table code action) = t == table
@@ -43,8 +43,8 @@ is_usual_table t = nat_le t 2 || t == 4 || t == 5 || t == 8 || t == 12
 -- the table is in the union: one of the `keymaps` lines has it, wherever the line stands
 unfoldable pub in_union : List KeymapLine → ℕ → Bool
 in_union lines t =
-    cond (list_any (λ l. is_keymaps l.telling) lines)
-    (list_any (λ l. names_table t l.telling) lines) (is_usual_table t)
+    cond (list_any (λ l. is_keymaps l.meaning) lines)
+    (list_any (λ l. names_table t l.meaning) lines) (is_usual_table t)
 
 -- the numbers below n that pass, in rising order
 unfoldable pub passing_below : (ℕ → Bool) → ℕ → List ℕ
@@ -57,7 +57,7 @@ union_of lines = passing_below (in_union lines) 256
 
 -- the table is declared: it is in the union, or a line with modifier words is for it
 unfoldable pub is_declared : List KeymapLine → ℕ → Bool
-is_declared lines t = in_union lines t || list_any (λ l. modifies_table t l.telling) lines
+is_declared lines t = in_union lines t || list_any (λ l. modifies_table t l.meaning) lines
 
 -- the list has for each table whether it passes the test
 pub record IsSetOf (marks : List Bool) (test : ℕ → Bool) : Type 0 where

@@ -87,7 +87,7 @@ fn fill_tables(tables: &mut KeyTables, union: &[u8], lines: &[Line], pairs: &[Pa
 
 // Fills the tables with Alt, if a line is `alt_is_meta`.
 fn put_alt(tables: &mut KeyTables, lines: &[Line])
-    ensures { Puts (λ t c. cond (list_any (λ l. is_alt l.telling) lines.now)
+    ensures { Puts (λ t c. cond (list_any (λ l. is_alt l.meaning) lines.now)
         (metas_below tables.old 8 t c) None) tables.old tables.new }
 {
     if has_alt_is_meta(lines) {

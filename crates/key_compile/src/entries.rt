@@ -19,7 +19,7 @@ pub(crate) fn put_lines(tables: &mut KeyTables, union: &[u8], lines: &[Line])
 
 // Sets the entries that a line gives.
 fn put_line(tables: &mut KeyTables, union: &[u8], line: &Line)
-    ensures { Puts (gives union.now line.now.telling) tables.old tables.new }
+    ensures { Puts (gives union.now line.now.meaning) tables.old tables.new }
 {
     match &line.kind {
         LineKind::Keys { code, syms } => put_symbols(tables, union, *code, syms.as_slice()),

@@ -41,8 +41,8 @@ fn at_line(line: &Line, kind: u16) -> KeyFault
 // The kind of a line's fault.
 fn fault_of(n: usize, seen: bool, count: usize, line: &Line) -> Option<u16>
     requires { count ≤ 256 }
-    ensures value { result ≡ fault_of n seen count line.now.telling }
-    ensures few { IfNone result (count + pairs_of_line line.now.telling ≤ 256) }
+    ensures value { result ≡ fault_of n seen count line.now.meaning }
+    ensures few { IfNone result (count + pairs_of_line line.now.meaning ≤ 256) }
 {
     match &line.kind {
         LineKind::Keymaps(_) => late(seen),
@@ -77,13 +77,13 @@ fn pairs_fault(count: usize) -> Option<u16>
 }
 
 fn is_key(line: &Line) -> bool
-    ensures { result ≡ is_key line.now.telling }
+    ensures { result ≡ is_key line.now.meaning }
 {
     matches!(&line.kind, LineKind::Keys { .. } | LineKind::One { .. })
 }
 
 fn pairs_of_line(line: &Line) -> usize
-    ensures value { result ≡ pairs_of_line line.now.telling }
+    ensures value { result ≡ pairs_of_line line.now.meaning }
     ensures few { result ≤ 66 }
 {
     match &line.kind {

@@ -17,7 +17,7 @@ const PLAIN_TABLES: u8 = 8;
 
 /// Whether a line is `alt_is_meta`.
 pub(crate) fn has_alt_is_meta(lines: &[Line]) -> bool
-    ensures { result ≡ list_any (λ l. is_alt l.telling) lines.now }
+    ensures { result ≡ list_any (λ l. is_alt l.meaning) lines.now }
 {
     for i in 0..lines.len() {
         if is_alt(&lines[i]) {
@@ -28,7 +28,7 @@ pub(crate) fn has_alt_is_meta(lines: &[Line]) -> bool
 }
 
 fn is_alt(line: &Line) -> bool
-    ensures { result ≡ is_alt line.now.telling }
+    ensures { result ≡ is_alt line.now.meaning }
 {
     matches!(&line.kind, LineKind::AltIsMeta)
 }

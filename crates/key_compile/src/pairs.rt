@@ -19,7 +19,7 @@ pub(crate) fn pairs_in(alloc: Global, lines: &[Line]) -> Result<Vec<Pair>, Alloc
 }
 
 fn add_pairs(pairs: &mut Vec<Pair>, line: &Line) -> Result<(), AllocError>
-    ensures { OnOk result (pairs.new.items ≡ pairs.old.items ++ pairs_by line.now.telling) }
+    ensures { OnOk result (pairs.new.items ≡ pairs.old.items ++ pairs_by line.now.meaning) }
 {
     match &line.kind {
         LineKind::Compose(pair) => add_pair(pairs, *pair),

@@ -18,7 +18,7 @@ pub(crate) fn put_strings(tables: &mut KeyTables, lines: &[Line])
 }
 
 fn put_text(tables: &mut KeyTables, line: &Line)
-    ensures { PutsTexts (text_by line.now.telling) tables.old tables.new }
+    ensures { PutsTexts (text_by line.now.meaning) tables.old tables.new }
 {
     match &line.kind {
         LineKind::Text { func, text } => put_string(tables, *func, text.as_slice()),

@@ -19,7 +19,7 @@ pub(crate) fn union_marks(alloc: Global, lines: &[Line]) -> Result<Vec<bool>, Al
 }
 
 fn has_keymaps(lines: &[Line]) -> bool
-    ensures { result ≡ list_any (λ l. is_keymaps l.telling) lines.now }
+    ensures { result ≡ list_any (λ l. is_keymaps l.meaning) lines.now }
 {
     for i in 0..lines.len() {
         if is_keymaps(&lines[i]) {
@@ -30,7 +30,7 @@ fn has_keymaps(lines: &[Line]) -> bool
 }
 
 fn is_keymaps(line: &Line) -> bool
-    ensures { result ≡ is_keymaps line.now.telling }
+    ensures { result ≡ is_keymaps line.now.meaning }
 {
     matches!(&line.kind, LineKind::Keymaps(_))
 }
@@ -38,7 +38,7 @@ fn is_keymaps(line: &Line) -> bool
 // For each table whether a line `keymaps` has it.
 fn named_tables(alloc: Global, lines: &[Line]) -> Result<Vec<bool>, AllocError>
     ensures { IfOk result (λ marks. IsSetOf marks.items
-        (λ t. list_any (λ l. names_table t l.telling) lines.now)) }
+        (λ t. list_any (λ l. names_table t l.meaning) lines.now)) }
 {
     let mut marks = no_marks(alloc)?;
     for i in 0..lines.len() {
@@ -60,7 +60,7 @@ fn mark_named(marks: &mut Vec<bool>, line: &Line)
     requires { length marks.old.items ≡ 256 }
     ensures full { length marks.new.items ≡ 256 }
     ensures each { (t : ℕ) → t < 256 → slice_index_or marks.new.items t false
-        ≡ (slice_index_or marks.old.items t false || names_table t line.now.telling) }
+        ≡ (slice_index_or marks.old.items t false || names_table t line.now.meaning) }
 {
     for t in 0..TABLE_COUNT {
         if names_table(t as u8, line) {
@@ -70,7 +70,7 @@ fn mark_named(marks: &mut Vec<bool>, line: &Line)
 }
 
 fn names_table(t: u8, line: &Line) -> bool
-    ensures { result ≡ names_table t line.now.telling }
+    ensures { result ≡ names_table t line.now.meaning }
 {
     match &line.kind {
         LineKind::Keymaps(tables) => tables.has(t),
@@ -116,7 +116,7 @@ fn mark_modified(marks: &mut Vec<bool>, line: &Line)
     requires { length marks.old.items ≡ 256 }
     ensures full { length marks.new.items ≡ 256 }
     ensures each { (t : ℕ) → t < 256 → slice_index_or marks.new.items t false
-        ≡ (slice_index_or marks.old.items t false || modifies_table t line.now.telling) }
+        ≡ (slice_index_or marks.old.items t false || modifies_table t line.now.meaning) }
 {
     match &line.kind {
         LineKind::One { table, .. } => marks[usize::from(*table)] = true,

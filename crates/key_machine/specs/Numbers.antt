@@ -34,7 +34,7 @@ NUM = 2
 abbrev pub CAPS : ℕ
 CAPS = 4
 
--- the special actions that have an effect, by the values of docs/KEYS.md
+-- the special actions that have an effect, by the values of docs/reference/keys.md
 abbrev pub RETURN : ℕ
 RETURN = 1
 
@@ -71,7 +71,7 @@ BARE_NUM_LOCK = 11
 abbrev pub CAPS_ON : ℕ
 CAPS_ON = 12
 
--- the function keys of the cursor pad, by the values of docs/KEYS.md
+-- the function keys of the cursor pad, by the values of docs/reference/keys.md
 abbrev pub FIND : ℕ
 FIND = 20
 
@@ -90,7 +90,7 @@ PRIOR = 24
 abbrev pub NEXT : ℕ
 NEXT = 25
 
--- the cursor keys, by the values of docs/KEYS.md
+-- the cursor keys, by the values of docs/reference/keys.md
 abbrev pub DOWN : ℕ
 DOWN = 0
 
@@ -103,6 +103,6 @@ RIGHT = 2
 abbrev pub UP : ℕ
 UP = 3
 
--- KP_Enter, by the values of docs/KEYS.md
+-- KP_Enter, by the values of docs/reference/keys.md
 abbrev pub ENTER : ℕ
 ENTER = 14

@@ -1,4 +1,4 @@
-//! The cursor keys, by the values of docs/KEYS.md.
+//! The cursor keys, by the values of docs/reference/keys.md.
 
 /// Down.
 pub(crate) const DOWN: u16 = 0;

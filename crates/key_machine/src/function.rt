@@ -1,4 +1,4 @@
-//! The function keys of the cursor pad, by the values of docs/KEYS.md.
+//! The function keys of the cursor pad, by the values of docs/reference/keys.md.
 
 /// Find, also named Home.
 pub(crate) const FIND: u8 = 20;

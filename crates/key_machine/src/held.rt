@@ -96,9 +96,9 @@ impl HeldKeys {
         let _entries = &self.entries;
     }
 
-    /// Does nothing. It is called for its clause: the keyboards are 0 to 3, so none with a greater
-    /// number has a key down.
-    pub(crate) fn has_four(&self, from: u8)
+    /// Does nothing. It is called for its clause: the keyboards are 0 to 3, so all keys of one with a greater
+    /// number are up.
+    pub(crate) fn others_are_up(&self, from: u8)
         requires { 4 ≤ from }
         ensures { without_keyboard self.now from ≡ self.now }
     {

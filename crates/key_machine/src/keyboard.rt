@@ -101,7 +101,7 @@ impl Keyboard {
         if usize::from(from) < KEYBOARDS {
             self.held.unplug(KeyboardNo::numbered(from));
         } else {
-            self.held.has_four(from);
+            self.held.others_are_up(from);
         }
     }
 

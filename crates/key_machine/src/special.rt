@@ -1,4 +1,4 @@
-//! The special actions that do something, by the values of docs/KEYS.md.
+//! The special actions that do something, by the values of docs/reference/keys.md.
 
 /// CR.
 pub(crate) const RETURN: u16 = 1;

@@ -1,4 +1,4 @@
--- The kinds of actions (docs/KEYS.md, "Actions").
+-- The kinds of actions (docs/reference/keys.md, "Actions").
 use Rattle.std.specs.Prelude.{ℕ}
 
 abbrev pub HOLE : ℕ

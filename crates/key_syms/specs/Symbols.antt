@@ -1,4 +1,4 @@
--- The symbol table: the names of docs/KEYS.md, each with its action. `tools/key_index.py` reads this file.
+-- The symbol table: the names of docs/reference/keys.md, each with its action. `dev/gen/key_index.py` reads this file.
 use Rattle.std.specs.Prelude.{ℕ, ◌==◌, List, [], ◌∷◌, ◌++◌, suc, map, codes}
 use Rattle.std.specs.Fmt.{decimal}
 use Rattle.std.specs.List.{range_with_len, slice_split}

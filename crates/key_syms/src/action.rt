@@ -5,7 +5,7 @@ use crate::kind;
 use std::marker::Model;
 
 /// An action of a key: a kind of [`crate::kind`] and a value. Each action is in the table of
-/// docs/KEYS.md.
+/// docs/reference/keys.md.
 #[derive(Clone, Copy, Debug, PartialEq, Eq)]
 pub struct Action {
     pub kind: u8,

@@ -1,4 +1,4 @@
-//! Written by tools/key_index.py: the places of the names of the symbol table, their order and their actions,
+//! Written by dev/gen/key_index.py: the places of the names of the symbol table, their order and their actions,
 //! proved to be those of the definition.
 
 use crate::table::NAME_COUNT;

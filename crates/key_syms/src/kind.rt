@@ -1,4 +1,4 @@
-//! The kinds of actions, by their numbers in docs/KEYS.md.
+//! The kinds of actions, by their numbers in docs/reference/keys.md.
 
 /// No action.
 pub const HOLE: u8 = 0;

@@ -1,4 +1,4 @@
-//! Written by tools/key_index.py: the names of the symbol table, proved equal to those of the definition.
+//! Written by dev/gen/key_index.py: the names of the symbol table, proved equal to those of the definition.
 
 /// The number of names.
 pub(crate) const NAME_COUNT: usize = 991;

@@ -1,4 +1,4 @@
--- The kinds of faults in a keymap (docs/KEYS.md, "Faults").
+-- The kinds of faults in a keymap (docs/reference/keys.md, "Faults").
 use Rattle.std.specs.Prelude.{ℕ}
 
 abbrev pub UNKNOWN_WORD : ℕ

@@ -6,19 +6,19 @@ use Rattle.key_text.specs.Tables.{is_table_set}
 
 -- the content: the tables that exist; the actions of a code in the tables in order; the one action of a code
 -- in one table; a string; a pair; and the lines of one meaning
-pub data Telling : Type 0 where
-  keymaps : List Bool → Telling
-  keys : ℕ → List Act → Telling
-  one : ℕ → ℕ → Act → Telling
-  string : ℕ → List ℕ → Telling
-  compose : Pair → Telling
-  alt_is_meta : Telling
-  usual_strings : Telling
-  usual_pairs : Telling
+pub data LineMeaning : Type 0 where
+  keymaps : List Bool → LineMeaning
+  keys : ℕ → List Act → LineMeaning
+  one : ℕ → ℕ → Act → LineMeaning
+  string : ℕ → List ℕ → LineMeaning
+  compose : Pair → LineMeaning
+  alt_is_meta : LineMeaning
+  usual_strings : LineMeaning
+  usual_pairs : LineMeaning
 
 -- a line: its content, and the place of its first word
 pub record KeymapLine : Type 0 where
-  pub telling : Telling
+  pub meaning : LineMeaning
   pub line : ℕ
   pub column : ℕ
 
@@ -29,7 +29,7 @@ is_real pair =
 
 -- the content is fit: there is a table, a code isn't 0, a string has at most 255 bytes, and a pair is of
 -- characters
-abbrev pub is_fit : Telling → Bool
+abbrev pub is_fit : LineMeaning → Bool
 is_fit (keymaps tables) = is_table_set tables
 is_fit (keys code actions) = nat_le 1 code
 is_fit (one table code action) = nat_le 1 code

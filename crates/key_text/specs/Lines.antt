@@ -6,8 +6,8 @@ use Rattle.key_syms.specs.Numbers.{number_of}
 use Rattle.key_syms.specs.declared.pair.Pair.{Pair}
 use Rattle.key_text.specs.Fault.{fault, ◌>>=◌}
 use Rattle.key_text.specs.Fields.{character_at, code_at, end_of_line, keyword_at, number_in_range, string_at, symbol_at, symbols_at, function_at, text_at, with_actions}
-use Rattle.key_text.specs.KeymapLine.{Telling, keymaps, keys, one, string, compose, alt_is_meta, usual_strings, usual_pairs}
-use Rattle.key_text.specs.Words.{bytes, is_word, next, spot, whole, word_at}
+use Rattle.key_text.specs.KeymapLine.{LineMeaning, keymaps, keys, one, string, compose, alt_is_meta, usual_strings, usual_pairs}
+use Rattle.key_text.specs.Words.{bytes, is_word, next, place_of_word, whole, word_at}
 use Rattle.key_text.specs.declared.fault.KeyFault.{KeyFault}
 use Rattle.key_text.specs.FaultKinds.{OUT_OF_RANGE, UNKNOWN_WORD}
 use Rattle.key_text.specs.declared.keymaps_line.TableRange.{TableRange}
@@ -16,10 +16,10 @@ use Rattle.key_text.specs.declared.placed.Placed.{Placed}
 
 -- the statement of a row: nothing, a line, or an include: the name of the text, the place of the quoted name,
 -- and the fault of the words after the name
-pub data Said : Type 0 where
-  nothing : Said
-  tells : Telling → Said
-  includes : List ℕ → Place → Option KeyFault → Said
+pub data StatementView : Type 0 where
+  nothing : StatementView
+  means : LineMeaning → StatementView
+  includes : List ℕ → Place → Option KeyFault → StatementView
 
 abbrev pub comma : ℕ
 comma = 0x2C
@@ -49,7 +49,7 @@ table_of word piece = number_in_range 0 255 word (number_of piece)
 abbrev pub in_order : List Placed → ℕ → ℕ → Result TableRange KeyFault
 in_order word low high =
     cond (nat_le low high) (Ok (record { low = low; high = high }))
-    (Err (fault OUT_OF_RANGE (spot word)))
+    (Err (fault OUT_OF_RANGE (place_of_word word)))
 
 -- a range `N` or `N-N`, of a piece with this many bytes before its first dash
 abbrev pub range_by : List Placed → List ℕ → ℕ → Result TableRange KeyFault
@@ -80,21 +80,21 @@ abbrev pub tables_in : List Placed → List ℕ → Result (List Bool) KeyFault
 tables_in word text = ranges_of word (pieces text) >>= λ ranges. Ok (table_marks ranges)
 
 -- `keymaps` and ranges
-unfoldable pub keymaps_line : Place → List Placed → Result Said KeyFault
+unfoldable pub keymaps_line : Place → List Placed → Result StatementView KeyFault
 keymaps_line end items = do
   w ← next UNKNOWN_WORD end items
   tables ← tables_in w.0 (bytes w.0)
   done ← end_of_line w.1
-  Ok (tells (keymaps tables))
+  Ok (means (keymaps tables))
 
 -- `keycode N =` and symbols
-unfoldable pub keys_line : Place → List Placed → Result Said KeyFault
+unfoldable pub keys_line : Place → List Placed → Result StatementView KeyFault
 keys_line end items = do
   code ← code_at end items
   rest ← keyword_at (codes "=") end code.1
   first ← symbol_at end rest
   actions ← with_actions (first.0 ∷ []) (symbols_at (length first.1) first.1)
-  Ok (tells (keys code.0 actions))
+  Ok (means (keys code.0 actions))
 
 -- the weight of a modifier word: the table that it alone names
 unfoldable pub weight_of : List Placed → Option ℕ
@@ -112,7 +112,7 @@ weight_of word =
 -- `keycode` after modifier words of this table, and the rest of the row
 abbrev pub keycode_by : ℕ → List Placed × List Placed → Result (ℕ × List Placed) KeyFault
 keycode_by table w =
-    cond (is_word (codes "keycode") w.0) (Ok (table, w.1)) (Err (fault UNKNOWN_WORD (spot w.0)))
+    cond (is_word (codes "keycode") w.0) (Ok (table, w.1)) (Err (fault UNKNOWN_WORD (place_of_word w.0)))
 
 -- modifier words up to `keycode`, n words at most: the union of the weights, and the rest of the row
 abbrev pub modifiers_by : (ℕ → List Placed → Result (ℕ × List Placed) KeyFault) → ℕ → List Placed × List Placed → Option ℕ → Result (ℕ × List Placed) KeyFault
@@ -126,36 +126,36 @@ modifiers_at (suc n) table end items =
     modifiers_by (λ more left. modifiers_at n more end left) table w (weight_of w.0)
 
 -- modifier words, of which the first weighs this, before `keycode N =` and one symbol
-unfoldable pub modified_line : ℕ → Place → List Placed → Result Said KeyFault
+unfoldable pub modified_line : ℕ → Place → List Placed → Result StatementView KeyFault
 modified_line weight end items = do
   table ← modifiers_at (length items + 1) weight end items
   code ← code_at end table.1
   rest ← keyword_at (codes "=") end code.1
   only ← symbol_at end rest
   done ← end_of_line only.1
-  Ok (tells (one table.0 code.0 only.0))
+  Ok (means (one table.0 code.0 only.0))
 
 -- `string NAME = "text"`
-unfoldable pub string_line : Place → List Placed → Result Said KeyFault
+unfoldable pub string_line : Place → List Placed → Result StatementView KeyFault
 string_line end items = do
   func ← function_at end items
   rest ← keyword_at (codes "=") end func.1
   bytes ← string_at end rest
   done ← end_of_line bytes.1
-  Ok (tells (string func.0 bytes.0))
+  Ok (means (string func.0 bytes.0))
 
 -- `A B to C`
 abbrev pub pair_of : ℕ → ℕ → ℕ → Pair
 pair_of a b c = record { accent = a; base = b; result = c }
 
-unfoldable pub pair_line : Place → List Placed → Result Said KeyFault
+unfoldable pub pair_line : Place → List Placed → Result StatementView KeyFault
 pair_line end items = do
   accent ← character_at end items
   base ← character_at end accent.1
   rest ← keyword_at (codes "to") end base.1
   result ← character_at end rest
   done ← end_of_line result.1
-  Ok (tells (compose (pair_of accent.0 base.0 result.0)))
+  Ok (means (compose (pair_of accent.0 base.0 result.0)))
 
 -- the next word is this one
 abbrev pub is_next_by : List ℕ → Option (List Placed × List Placed) → Bool
@@ -173,49 +173,49 @@ after_charset end items =
     (Ok items)
 
 -- `as usual`, with `for "name"` allowed
-unfoldable pub usual_pairs_line : Place → List Placed → Result Said KeyFault
+unfoldable pub usual_pairs_line : Place → List Placed → Result StatementView KeyFault
 usual_pairs_line end items = do
   rest ← keyword_at (codes "as") end items
   rest ← keyword_at (codes "usual") end rest
   rest ← after_charset end rest
   done ← end_of_line rest
-  Ok (tells usual_pairs)
+  Ok (means usual_pairs)
 
-unfoldable pub compose_line : Place → List Placed → Result Said KeyFault
+unfoldable pub compose_line : Place → List Placed → Result StatementView KeyFault
 compose_line end items =
     cond (is_next (codes "as") items) (usual_pairs_line end items) (pair_line end items)
 
 -- `strings as usual`
-unfoldable pub usual_strings_line : Place → List Placed → Result Said KeyFault
+unfoldable pub usual_strings_line : Place → List Placed → Result StatementView KeyFault
 usual_strings_line end items = do
   rest ← keyword_at (codes "as") end items
   rest ← keyword_at (codes "usual") end rest
   done ← end_of_line rest
-  Ok (tells usual_strings)
+  Ok (means usual_strings)
 
-unfoldable pub alt_is_meta_line : List Placed → Result Said KeyFault
-alt_is_meta_line items = end_of_line items >>= λ done. Ok (tells alt_is_meta)
+unfoldable pub alt_is_meta_line : List Placed → Result StatementView KeyFault
+alt_is_meta_line items = end_of_line items >>= λ done. Ok (means alt_is_meta)
 
 -- `include "name"`
-unfoldable pub include_line : Place → List Placed → Result Said KeyFault
+unfoldable pub include_line : Place → List Placed → Result StatementView KeyFault
 include_line end items = do
   name ← text_at end items
   Ok (includes name.0 name.1 (result_err (end_of_line name.2)))
 
 -- `charset "name"`, which has no effect
-unfoldable pub charset_line : Place → List Placed → Result Said KeyFault
+unfoldable pub charset_line : Place → List Placed → Result StatementView KeyFault
 charset_line end items = do
   name ← text_at end items
   done ← end_of_line name.2
   Ok nothing
 
 -- a line that begins with modifier words, or with no word that is known
-abbrev pub modified_by : Place → List Placed × List Placed → Option ℕ → Result Said KeyFault
-modified_by end w None = Err (fault UNKNOWN_WORD (spot w.0))
+abbrev pub modified_by : Place → List Placed × List Placed → Option ℕ → Result StatementView KeyFault
+modified_by end w None = Err (fault UNKNOWN_WORD (place_of_word w.0))
 modified_by end w (Some weight) = modified_line weight end w.1
 
 -- a line by its first word
-unfoldable pub line_by : Place → List Placed × List Placed → Result Said KeyFault
+unfoldable pub line_by : Place → List Placed × List Placed → Result StatementView KeyFault
 line_by end w =
     cond (is_word (codes "keymaps") w.0) (keymaps_line end w.1)
     (cond (is_word (codes "keycode") w.0) (keys_line end w.1)
@@ -228,5 +228,5 @@ line_by end w =
     (modified_by end w (weight_of w.0)))))))))
 
 -- the statement of a row with this first word
-unfoldable pub said_from : Place → List Placed × List Placed → Result Said KeyFault
-said_from end word = whole word >>= λ w. line_by end w
+unfoldable pub statement_from : Place → List Placed × List Placed → Result StatementView KeyFault
+statement_from end word = whole word >>= λ w. line_by end w

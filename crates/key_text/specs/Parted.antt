@@ -6,7 +6,7 @@ use Rattle.key_text.specs.Included.{Named}
 use Rattle.key_text.specs.KeymapLine.{KeymapLine}
 use Rattle.key_text.specs.Reading.{Got, lines_of, most_deep, read_rows, start, with_lines, within}
 use Rattle.key_text.specs.Rows.{backslash, place_after, line_feed, rows_of}
-use Rattle.key_text.specs.Tellings.{tellings_or_fault}
+use Rattle.key_text.specs.Meanings.{meanings_or_fault}
 use Rattle.key_text.specs.declared.fault.KeyFault.{KeyFault}
 use Rattle.key_text.specs.declared.placed.Place.{Place}
 
@@ -42,7 +42,7 @@ StartsThere = (texts : List Named) (text : List ℕ) → lines_of texts text ≡
 abbrev pub PlacesTell : Type 0
 PlacesTell =
     (texts : List Named) (at there : Place) (count : ℕ) (text : List ℕ)
-    → tellings_or_fault (lines_from texts at count text) ≡ tellings_or_fault (lines_from texts there count text)
+    → meanings_or_fault (lines_from texts at count text) ≡ meanings_or_fault (lines_from texts there count text)
 
 -- if a text that ends a line has no fault, its lines stand before those of the text after it, which is read
 -- as it would be there

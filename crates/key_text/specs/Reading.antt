@@ -3,11 +3,11 @@ use Rattle.std.specs.Prelude.{ℕ, zero, suc, ◌+◌, cond, nat_le, Option, Som
 use Rattle.std.specs.Option.{option_map}
 use Rattle.key_text.specs.Fault.{fault, ◌>>=◌}
 use Rattle.key_text.specs.Included.{Named, text_named}
-use Rattle.key_text.specs.Lines.{Said, nothing, tells, includes, said_from}
+use Rattle.key_text.specs.Lines.{StatementView, nothing, means, includes, statement_from}
 use Rattle.key_text.specs.Rows.{Row, rows_of}
 use Rattle.key_text.specs.KeymapLine.{KeymapLine}
 use Rattle.key_text.specs.View.{keymap_line}
-use Rattle.key_text.specs.Words.{spot, word_at}
+use Rattle.key_text.specs.Words.{place_of_word, word_at}
 use Rattle.key_text.specs.declared.fault.KeyFault.{KeyFault}
 use Rattle.key_text.specs.FaultKinds.{NOT_GIVEN, TOO_DEEP, TOO_MANY_INCLUDES}
 use Rattle.key_text.specs.declared.placed.Place.{Place}
@@ -45,11 +45,11 @@ abbrev pub Deeper : Type 0
 Deeper = Place → Place → Option KeyFault → ℕ → List ℕ → Result Got KeyFault
 
 -- the result of a row that starts at this place
-abbrev pub got_from_row : Deeper → List Named → Option Place → Place → ℕ → Said → Result Got KeyFault
+abbrev pub got_from_row : Deeper → List Named → Option Place → Place → ℕ → StatementView → Result Got KeyFault
 got_from_row deeper texts outer first count nothing = Ok (make_got [] count)
-got_from_row deeper texts outer first count (tells telling) =
+got_from_row deeper texts outer first count (means meaning) =
     let at = unwrap_or outer first in
-    Ok (make_got (keymap_line telling at.line at.column ∷ []) count)
+    Ok (make_got (keymap_line meaning at.line at.column ∷ []) count)
 got_from_row deeper texts outer first count (includes name quoted bad_end) =
     let at = unwrap_or outer quoted in
     got_from_include (deeper at (unwrap_or outer first) (option_map (blamed_fault outer) bad_end) count) at
@@ -59,7 +59,7 @@ got_from_row deeper texts outer first count (includes name quoted bad_end) =
 abbrev pub read_row_by : Deeper → List Named → Option Place → ℕ → Place → Option (List Placed × List Placed) → Result Got KeyFault
 read_row_by deeper texts outer count end None = Ok (make_got [] count)
 read_row_by deeper texts outer count end (Some word) =
-    at_outer_include outer (said_from end word) >>= λ said. got_from_row deeper texts outer (spot word.0) count said
+    at_outer_include outer (statement_from end word) >>= λ said. got_from_row deeper texts outer (place_of_word word.0) count said
 
 unfoldable pub read_row : Deeper → List Named → Option Place → ℕ → Place → List Placed → Result Got KeyFault
 read_row deeper texts outer count end items =

@@ -4,7 +4,7 @@ use Rattle.std.specs.Str.{IsAscii, str_eq_ignore_ascii_case}
 use Rattle.key_text.specs.Included.{Named}
 use Rattle.key_text.specs.Reading.{lines_of, start}
 use Rattle.key_text.specs.Rows.{Row, rows_of}
-use Rattle.key_text.specs.Tellings.{tellings_or_fault}
+use Rattle.key_text.specs.Meanings.{meanings_or_fault}
 use Rattle.key_text.specs.Words.{bytes, word_at}
 use Rattle.key_text.specs.declared.placed.Placed.{Placed}
 
@@ -30,7 +30,7 @@ abbrev pub WordsDecide : Type 0
 WordsDecide =
     (texts : List Named) (a b : List ℕ)
     → SameRows (SameWords SameBytes) (rows_of start a) (rows_of start b)
-    → tellings_or_fault (lines_of texts a) ≡ tellings_or_fault (lines_of texts b)
+    → meanings_or_fault (lines_of texts a) ≡ meanings_or_fault (lines_of texts b)
 
 -- two words of ASCII are the same except for case
 pub record SameCase (v w : List Placed) : Type 0 where
@@ -48,4 +48,4 @@ abbrev pub FirstWordsFold : Type 0
 FirstWordsFold =
     (texts : List Named) (a b : List ℕ)
     → SameRows SameButFirst (rows_of start a) (rows_of start b)
-    → tellings_or_fault (lines_of texts a) ≡ tellings_or_fault (lines_of texts b)
+    → meanings_or_fault (lines_of texts a) ≡ meanings_or_fault (lines_of texts b)

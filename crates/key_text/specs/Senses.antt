@@ -10,7 +10,7 @@ use Rattle.key_text.specs.Lines.{comma, dash}
 use Rattle.key_text.specs.Reading.{lines_of, start}
 use Rattle.key_text.specs.Rows.{rows_of}
 use Rattle.key_text.specs.SameWords.{SameRows, SameWords}
-use Rattle.key_text.specs.Tellings.{tellings_or_fault}
+use Rattle.key_text.specs.Meanings.{meanings_or_fault}
 use Rattle.key_text.specs.Words.{bytes}
 use Rattle.key_text.specs.declared.placed.Placed.{Placed}
 
@@ -49,4 +49,4 @@ abbrev pub SensesDecide : Type 0
 SensesDecide =
     (texts : List Named) (a b : List ℕ)
     → SameRows (SameWords SameSense) (rows_of start a) (rows_of start b)
-    → tellings_or_fault (lines_of texts a) ≡ tellings_or_fault (lines_of texts b)
+    → meanings_or_fault (lines_of texts a) ≡ meanings_or_fault (lines_of texts b)

@@ -4,7 +4,7 @@ use Rattle.std.specs.List.{list_all}
 use Rattle.key_text.specs.Included.{Named}
 use Rattle.key_text.specs.Reading.{lines_of}
 use Rattle.key_text.specs.Rows.{backslash, carriage_return, line_feed}
-use Rattle.key_text.specs.Tellings.{tellings_or_fault}
+use Rattle.key_text.specs.Meanings.{meanings_or_fault}
 use Rattle.key_text.specs.Words.{is_bare, is_blank, is_quote}
 
 -- the inside of a quoted text: this quote stands there only after a backslash
@@ -73,4 +73,4 @@ pub data Spells : List (List (List ℕ)) → List ℕ → Type 0 where
 abbrev pub SpellingsAgree : Type 0
 SpellingsAgree =
     (texts : List Named) (rows : List (List (List ℕ))) (a b : List ℕ)
-    → Spells rows a → Spells rows b → tellings_or_fault (lines_of texts a) ≡ tellings_or_fault (lines_of texts b)
+    → Spells rows a → Spells rows b → meanings_or_fault (lines_of texts a) ≡ meanings_or_fault (lines_of texts b)

@@ -63,8 +63,8 @@ nth_place word i =
     place_of (slice_index_or word i (record { byte = 0; line = 0; column = 0 }))
 
 -- the place of a word
-abbrev pub spot : List Placed → Place
-spot word = nth_place word 0
+abbrev pub place_of_word : List Placed → Place
+place_of_word word = nth_place word 0
 
 -- a word: its bytes are UTF-8, or the fault is at the first byte that isn't
 unfoldable pub whole : List Placed × List Placed → Result (List Placed × List Placed) KeyFault

@@ -1,4 +1,4 @@
-//! The kinds of faults in a keymap, by their numbers in docs/KEYS.md.
+//! The kinds of faults in a keymap, by their numbers in docs/reference/keys.md.
 
 /// A word that isn't allowed there.
 pub const UNKNOWN_WORD: u16 = 1;

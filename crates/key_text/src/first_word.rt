@@ -1,28 +1,28 @@
 ghost use Rattle.key_text.specs.Fault.{Gives};
-ghost use Rattle.key_text.specs.Lines.{line_by, modified_by, said_from, weight_of};
-ghost use Rattle.key_text.specs.Sayings.{statement_view};
+ghost use Rattle.key_text.specs.Lines.{line_by, modified_by, statement_from, weight_of};
+ghost use Rattle.key_text.specs.StatementViews.{statement_view};
 
 use crate::fault::KeyError;
 use crate::fault_kind::UNKNOWN_WORD;
 use crate::key_lines::{keys_line, modified_line, weight_of};
 use crate::keymaps_line::keymaps_line;
-use crate::lines::{
-    alt_is_meta_line, charset_line, compose_line, include_line, string_line, usual_strings_line,
-};
 use crate::placed::{Place, Placed};
 use crate::statement::Statement;
+use crate::word_lines::{
+    alt_is_meta_line, charset_line, compose_line, include_line, string_line, usual_strings_line,
+};
 use crate::words::{check_utf8, fault, is_word, place_of_word};
 use std::alloc::Global;
 
 /// The statement of a row with this first word.
-#[tactic(auto, unfolding(crate::specs::Lines::said_from))]
+#[tactic(auto, unfolding(crate::specs::Lines::statement_from))]
 pub(crate) fn statement_from(
     alloc: Global,
     end: Place,
     word: &[Placed],
     rest: &[Placed],
 ) -> Result<Statement, KeyError>
-    ensures { Gives statement_view result (said_from end (word.now, rest.now)) }
+    ensures { Gives statement_view result (statement_from end (word.now, rest.now)) }
 {
     let (word, rest) = check_utf8(alloc, word, rest)?;
     statement_by_keyword(alloc, end, word, rest)

@@ -1,6 +1,6 @@
 ghost use Rattle.std.specs.Prelude.{◌≡◌, IsTrue};
 ghost use Rattle.key_text.specs.KeymapLine.{is_fit};
-ghost use Rattle.key_text.specs.View.{telling_of};
+ghost use Rattle.key_text.specs.View.{meaning_of};
 
 use crate::line_kind::LineKind;
 
@@ -8,12 +8,12 @@ use crate::line_kind::LineKind;
 #[derive(Drop)]
 pub(crate) struct FitKind {
     pub kind: LineKind,
-    ghost fit: { IsTrue (is_fit (telling_of kind)) },
+    ghost fit: { IsTrue (is_fit (meaning_of kind)) },
 }
 
 impl FitKind {
     pub(crate) fn of(kind: LineKind) -> FitKind
-        requires { IsTrue (is_fit (telling_of kind)) }
+        requires { IsTrue (is_fit (meaning_of kind)) }
         ensures { result.kind ≡ kind }
     {
         FitKind { kind }

@@ -2,7 +2,7 @@ ghost use Rattle.std.specs.Prelude.{◌≡◌, ◌+◌, [], ◌∷◌, length};
 ghost use Rattle.key_text.specs.Fault.{Gives};
 ghost use Rattle.key_text.specs.Lines.{keycode_by, keys_line, modified_line, modifiers_at, weight_of};
 ghost use Rattle.key_text.specs.Fields.{symbols_at, with_actions};
-ghost use Rattle.key_text.specs.Sayings.{statement_view};
+ghost use Rattle.key_text.specs.StatementViews.{statement_view};
 
 use crate::fault::KeyError;
 use crate::fault_kind::{UNKNOWN_WORD, WRONG_COUNT};
@@ -26,7 +26,7 @@ pub(crate) fn keys_line(alloc: Global, end: Place, items: &[Placed]) -> Result<S
     let (word, rest) = next(alloc, WRONG_COUNT, end, rest)?;
     let first = action_of(alloc, word)?;
     let syms = symbols(alloc, first, rest)?;
-    Ok(Statement::Tells(FitKind::of(LineKind::Keys { code, syms })))
+    Ok(Statement::Means(FitKind::of(LineKind::Keys { code, syms })))
 }
 
 // The symbols up to the row's end, after a first one.
@@ -66,7 +66,7 @@ pub(crate) fn modified_line(
     let (word, rest) = next(alloc, WRONG_COUNT, end, rest)?;
     let action = action_of(alloc, word)?;
     end_of_line(alloc, rest)?;
-    Ok(Statement::Tells(FitKind::of(LineKind::One {
+    Ok(Statement::Means(FitKind::of(LineKind::One {
         table,
         code,
         action,

@@ -2,7 +2,7 @@
 ghost use Rattle.std.specs.Prelude.{◌≡◌, ℕ, ◌<◌, ◌≤◌, ◌||◌, false, length, slice_index_or, replicate, IfOk, IsTrue};
 ghost use Rattle.key_text.specs.Fault.{Gives};
 ghost use Rattle.key_text.specs.Lines.{before, covers, keymaps_line, range_by, range_of, table_of, tables_in};
-ghost use Rattle.key_text.specs.Sayings.{statement_view};
+ghost use Rattle.key_text.specs.StatementViews.{statement_view};
 ghost use Rattle.key_text.specs.Tables.{is_table_set};
 
 use crate::fault::KeyError;
@@ -38,7 +38,7 @@ pub(crate) fn keymaps_line(
     let text = bytes(alloc, word)?;
     let tables = tables_in(alloc, word, text.as_slice())?;
     end_of_line(alloc, rest)?;
-    Ok(Statement::Tells(FitKind::of(LineKind::Keymaps(tables))))
+    Ok(Statement::Means(FitKind::of(LineKind::Keymaps(tables))))
 }
 
 // The tables of a word of ranges, whose bytes are the text.

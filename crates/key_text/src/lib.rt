@@ -14,7 +14,6 @@ mod keymaps_line;
 pub mod laws;
 mod line;
 mod line_kind;
-mod lines;
 mod named;
 mod next_row;
 mod pieces;
@@ -24,6 +23,7 @@ mod reading;
 mod statement;
 mod syms;
 mod table_set;
+mod word_lines;
 mod words;
 
 pub use fault::{KeyError, KeyFault};

@@ -13,11 +13,11 @@ pub struct Line {
 impl Model for Line {
     ghost use Rattle.std.specs.Prelude.{IsTrue};
     ghost use Rattle.key_text.specs.KeymapLine.{KeymapLine, is_fit};
-    ghost use Rattle.key_text.specs.View.{telling_of, keymap_line};
+    ghost use Rattle.key_text.specs.View.{meaning_of, keymap_line};
 
     ghost Value = { KeymapLine };
 
-    ghost view = { λ l. keymap_line (telling_of l.kind) l.line l.column };
+    ghost view = { λ l. keymap_line (meaning_of l.kind) l.line l.column };
 
-    ghost invariant = { λ l. IsTrue (is_fit (telling_of l.kind)) };
+    ghost invariant = { λ l. IsTrue (is_fit (meaning_of l.kind)) };
 }

@@ -5,7 +5,7 @@ ghost use Rattle.key_text.specs.Included.{text_named};
 ghost use Rattle.key_text.specs.Adds.{Adds};
 ghost use Rattle.key_text.specs.Fault.{Fails, Gives};
 ghost use Rattle.key_text.specs.Reading.{at_outer_include, blamed_fault, got_from_include, lines_of, read_row, read_rows, start, within};
-ghost use Rattle.key_text.specs.Lines.{Said};
+ghost use Rattle.key_text.specs.Lines.{StatementView};
 ghost use Rattle.key_text.specs.Rows.{rows_of};
 ghost use Rattle.key_text.specs.declared.fault.KeyFault.{KeyFault};
 
@@ -114,7 +114,7 @@ fn read_row(
     };
     match said {
         Statement::Nothing => Ok(count),
-        Statement::Tells(line) => {
+        Statement::Means(line) => {
             out.push(Line {
                 kind: line.kind,
                 line: first.line,
@@ -170,7 +170,7 @@ fn include(
 
 // A fault in an included text, at the outermost include line.
 fn at_outer_include(outer: Option<Place>, error: KeyError) -> KeyError
-    ensures { (read : Result Said KeyFault) → Fails error read → Fails result (at_outer_include outer read) }
+    ensures { (read : Result StatementView KeyFault) → Fails error read → Fails result (at_outer_include outer read) }
 {
     match error {
         KeyError::Fault(fault) => KeyError::Fault(blamed_fault(outer, fault)),

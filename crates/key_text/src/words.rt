@@ -5,7 +5,7 @@ ghost use Rattle.std.specs.Option.{option_map};
 ghost use Rattle.std.specs.Str.Lossy.{utf8_valid_len};
 ghost use Rattle.key_text.specs.Fault.{Gives, fault};
 ghost use Rattle.key_text.specs.Rows.{backslash};
-ghost use Rattle.key_text.specs.Words.{bytes, close_at, is_bare, is_blank, is_quote, is_word, next, nth_place, quoted_len, spot, whole, word_at, word_len};
+ghost use Rattle.key_text.specs.Words.{bytes, close_at, is_bare, is_blank, is_quote, is_word, next, nth_place, quoted_len, place_of_word, whole, word_at, word_len};
 
 use crate::fault::{KeyError, KeyFault};
 use crate::fault_kind::BAD_TEXT;
@@ -33,7 +33,7 @@ pub(crate) fn fault(kind: u16, at: Place) -> KeyError
 
 /// The place of a word.
 pub(crate) fn place_of_word(word: &[Placed]) -> Place
-    ensures { result ≡ spot word.now }
+    ensures { result ≡ place_of_word word.now }
 {
     nth_place(word, 0)
 }

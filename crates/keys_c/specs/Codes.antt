@@ -1,4 +1,4 @@
--- The codes that calls return to C, as include/vt.h names them.
+-- The codes that calls return to C, as libvt/include/vt.h names them.
 use Rattle.std.specs.Prelude.{ℕ}
 
 -- VT_OK: the call succeeded

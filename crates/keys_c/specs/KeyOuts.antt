@@ -1,4 +1,4 @@
--- The result of a scan byte as C gets it. The numbers of the kinds are those of include/vt.h.
+-- The result of a scan byte or a key as C gets it. The numbers of the kinds are those of libvt/include/vt.h.
 use Rattle.std.specs.Prelude.{ℕ, ◌++◌, [], List, length, drop}
 use Rattle.key_machine.specs.declared.key_out.KeyOut.{KeyOut}
 use Rattle.key_machine.specs.declared.key_out.KeyOut.TheVariants.{Attention, Bytes, Last, Next, Nothing, Prev, Spawn, Switch}
@@ -8,8 +8,9 @@ use Rattle.keys_c.specs.declared.vt_key.VtKey.{VtKey}
 abbrev pub key_with : ℕ → ℕ → List ℕ → VtKey → VtKey
 key_with kind number bytes old = record {
   kind = kind;
-  number = number;
+  spare = 0;
   length = length bytes;
+  number = number;
   bytes = bytes ++ drop (length bytes) old.bytes;
 }
 

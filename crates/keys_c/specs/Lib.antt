@@ -1,9 +1,12 @@
+pub mod Actions
 pub mod Answers
 pub mod Codes
 pub mod KeyOuts
 pub mod KeyState
 pub mod KeyboardView
 pub mod Keymaps
+pub mod Loans
 pub mod Modes
 pub mod Scanning
 pub mod Strings
+pub mod Typing

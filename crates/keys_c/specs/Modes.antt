@@ -1,5 +1,6 @@
 -- The modes of a screen that C passes, as the key machine takes them.
-use Rattle.std.specs.Prelude.{ℕ, ◌==◌, Bool, not}
+use Rattle.std.specs.Prelude.{ℕ, ◌==◌, Bool, not, replicate}
+use Rattle.std.specs.Str.{bytes_eq}
 use Rattle.key_machine.specs.declared.key_modes.KeyModes.{KeyModes}
 use Rattle.keys_c.specs.declared.vt_modes.VtModes.{VtModes}
 
@@ -12,5 +13,9 @@ modes_of m = record {
   cursor = is_set m.cursor_keys;
   keypad = is_set m.keypad;
   repeat = is_set m.repeat;
-  newline = is_set m.newline;
+  newline = is_set m.newline_mode;
 }
+
+-- the spare bytes are 0
+abbrev pub is_modes : VtModes → Bool
+is_modes m = bytes_eq m.spare (replicate 4 0)

@@ -1,4 +1,4 @@
-//! The codes that calls return to C: `enum vt_code` of `include/vt.h`.
+//! The codes that calls return to C: `enum vt_code` of `libvt/include/vt.h`.
 
 /// The call succeeded.
 pub(crate) const OK: u8 = 0;

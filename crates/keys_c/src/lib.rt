@@ -2,16 +2,18 @@
 #![tactic(auto)]
 
 mod code;
+mod entries;
 mod handle;
 mod keymap;
 mod keymap_keyboard;
+mod lent_keyboard;
+mod loan;
 mod making;
+mod pairs;
 mod scanning;
 mod sending;
-mod settings;
 mod strings;
-#[cfg(test)]
-mod tests;
+mod vt_action;
 mod vt_fault;
 mod vt_key;
 mod vt_key_state;
@@ -19,3 +21,4 @@ mod vt_modes;
 mod vt_text;
 
 pub use handle::KeysHandle;
+pub use loan::KeysLoan;

@@ -17,7 +17,7 @@ use std::alloc::Global;
 /// Makes a keyboard from a keymap text, which may include the other texts. If the text has a fault, `fault` is the
 /// first one.
 #[unsafe(no_mangle)]
-pub extern "C" fn vt_keys_new(
+pub extern "C" fn vt_nonnull_keys_new(
     h: &mut KeysHandle,
     alloc: Global,
     text: &[u8],
@@ -27,7 +27,7 @@ pub extern "C" fn vt_keys_new(
     ensures there { (result ≡ MADE) ↔ IsSome h.old.value }
     ensures codes { ((result ≡ OK) ⊎ (result ≡ FAULT)) ⊎ ((result ≡ MADE) ⊎ (result ≡ NO_MEMORY)) }
     ensures made { result ≡ OK → IsSomeAnd h.new.value (IsStartOf texts.now text.now) }
-    ensures fault { result ≡ FAULT → keymap_of texts.now text.now ≡ Err (fault_of fault.new) }
+    ensures fault { result ≡ FAULT → (keymap_of texts.now text.now ≡ Err (fault_of fault.new)) × (fault.new.spare ≡ 0) }
     ensures left { result ≢ OK → h.new.value ≡ h.old.value }
     ensures no_fault { result ≢ FAULT → fault.new ≡ fault.old }
 {
@@ -45,7 +45,7 @@ fn make(h: &mut KeysHandle, alloc: Global, text: &[u8], texts: &[VtText], fault:
     requires { h.old.value ≡ None }
     ensures codes { ((result ≡ OK) ⊎ (result ≡ FAULT)) ⊎ (result ≡ NO_MEMORY) }
     ensures made { result ≡ OK → IsSomeAnd h.new.value (IsStartOf texts.now text.now) }
-    ensures fault { result ≡ FAULT → keymap_of texts.now text.now ≡ Err (fault_of fault.new) }
+    ensures fault { result ≡ FAULT → (keymap_of texts.now text.now ≡ Err (fault_of fault.new)) × (fault.new.spare ≡ 0) }
     ensures left { result ≢ OK → h.new.value ≡ None }
     ensures no_fault { result ≢ FAULT → fault.new ≡ fault.old }
 {

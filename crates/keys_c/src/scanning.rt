@@ -1,41 +1,104 @@
-//! Types scan bytes, and releases all keys.
-ghost use Rattle.std.specs.Prelude.{◌≡◌, None, Some, true, MatchOption};
+//! Types scan bytes and keys into a console, and releases all keys.
+ghost use Rattle.std.specs.Prelude.{◌≡◌, ◌&&◌, None, Some, IfNone, IfSome, IsTrue, false, true};
 ghost use Rattle.keys_c.specs.Answers.{Changes};
 ghost use Rattle.keys_c.specs.Codes.{NOTHING, OK};
-ghost use Rattle.keys_c.specs.KeyOuts.{vt_key_of};
+ghost use Rattle.keys_c.specs.KeyState.{is_key_state, state_in};
 ghost use Rattle.keys_c.specs.KeyboardView.{with_keys_up};
-ghost use Rattle.keys_c.specs.Modes.{modes_of};
-ghost use Rattle.keys_c.specs.Scanning.{byte_step, out_in_mode};
+ghost use Rattle.keys_c.specs.Modes.{is_modes, is_set, modes_of};
+ghost use Rattle.keys_c.specs.Scanning.{byte_step, event_step, is_keycode, key_event, out_in_mode};
+ghost use Rattle.keys_c.specs.Typing.{Types, typed};
 
 use crate::code;
+use crate::entries::is_keycode;
 use crate::handle::KeysHandle;
 use crate::vt_key::VtKey;
+use crate::vt_key_state::VtKeyState;
 use crate::vt_modes::VtModes;
+use key_machine::KbState;
+use scan_codes::KeyEvent;
 use std::alloc::Global;
 
-/// Types a scan byte, and writes the result to `out`.
+/// Types a scan byte into the console with this state and these modes, and writes the result to `out`.
 #[unsafe(no_mangle)]
 pub extern "C" fn vt_keys_scan(
     h: &mut KeysHandle,
     alloc: Global,
     byte: u8,
     modes: &VtModes,
+    state: &mut VtKeyState,
     out: &mut VtKey,
 ) -> u8
-    ensures keyboard { Changes h.old.value true
-        (λ k. (byte_step (modes_of modes.now) byte k).keyboard) result h.new.value }
-    ensures out { MatchOption h.old.value (out.new ≡ out.old)
-        (λ k. let said = (byte_step (modes_of modes.now) byte k).out in
-        out.new ≡ vt_key_of (out_in_mode k.state.mode byte said) out.old) }
+    ensures typed { Types (is_modes modes.now && is_key_state state.old)
+        (λ k. byte_step (modes_of modes.now) byte k (state_in state.old))
+        (out_in_mode state.old.mode byte) result
+        (typed h.old.value state.old out.old) (typed h.new.value state.new out.new) }
 {
     let Some(mut keyboard) = h.take(alloc) else {
         return code::NOTHING;
     };
-    let mode = keyboard.state().mode;
-    let said = keyboard.scan(byte, modes.modes());
-    out.hand_over(mode, byte, &said, &keyboard);
+    let answer = match known(modes, state) {
+        None => code::RANGE,
+        Some(keys) => {
+            let mut keys = keys;
+            let mode = keys.mode;
+            let said = keyboard.scan(byte, modes.modes(), &mut keys);
+            out.hand_over(mode, byte, &said, &keyboard);
+            state.set(keys);
+            code::OK
+        }
+    };
     h.put(keyboard);
-    code::OK
+    answer
+}
+
+/// Types a key by its keycode into the console with this state and these modes, and writes the result to `out`.
+#[unsafe(no_mangle)]
+pub extern "C" fn vt_keys_key(
+    h: &mut KeysHandle,
+    alloc: Global,
+    keycode: u32,
+    is_down: u8,
+    modes: &VtModes,
+    state: &mut VtKeyState,
+    out: &mut VtKey,
+) -> u8
+    ensures typed { Types (is_keycode keycode && (is_modes modes.now && is_key_state state.old))
+        (λ k. event_step (modes_of modes.now) k (state_in state.old) (Some (key_event keycode (is_set is_down))))
+        (λ said. said) result
+        (typed h.old.value state.old out.old) (typed h.new.value state.new out.new) }
+{
+    let Some(mut keyboard) = h.take(alloc) else {
+        return code::NOTHING;
+    };
+    let answer = match known(modes, state) {
+        Some(keys) if is_keycode(keycode) => {
+            let mut keys = keys;
+            let event = KeyEvent {
+                code: keycode as u8,
+                down: is_down != 0,
+            };
+            let said = keyboard.type_key(event, modes.modes(), &mut keys);
+            out.put_out(&said, &keyboard);
+            state.set(keys);
+            code::OK
+        }
+        _ => code::RANGE,
+    };
+    h.put(keyboard);
+    answer
+}
+
+// The key state, if its numbers are in their ranges and all spare bytes are 0.
+fn known(modes: &VtModes, state: &VtKeyState) -> Option<KbState>
+    ensures some { IfSome result (λ s.
+        IsTrue (is_modes modes.now && is_key_state state.now) × (s ≡ state_in state.now)) }
+    ensures none { IfNone result ((is_modes modes.now && is_key_state state.now) ≡ false) }
+{
+    if modes.is_known() {
+        state.state()
+    } else {
+        None
+    }
 }
 
 /// Releases the keys as if the keyboard were unplugged. Nothing is sent.

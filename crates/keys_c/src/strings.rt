@@ -3,10 +3,12 @@ ghost use Rattle.std.specs.Prelude.{◌≡◌, ◌≤◌, ◌&&◌, None, Some, 
 ghost use Rattle.keys_c.specs.Answers.{Changes};
 ghost use Rattle.keys_c.specs.Codes.{NOTHING, NO_ROOM, OK, RANGE};
 ghost use Rattle.keys_c.specs.KeyboardView.{with_string};
+ghost use Rattle.keys_c.specs.Loans.{IsSameLoan};
 ghost use Rattle.keys_c.specs.Strings.{Hands, HandsString, room_of};
 
 use crate::code;
 use crate::handle::KeysHandle;
+use crate::loan::KeysLoan;
 use std::alloc::Global;
 
 /// The greatest number of a function key.
@@ -17,32 +19,34 @@ const MOST_BYTES: usize = 255;
 
 /// Writes the string of a function key to `text`, and its length to `length` (ioctl_console(2), KDGKBSENT).
 #[unsafe(no_mangle)]
-pub extern "C" fn vt_keys_string(
-    h: &mut KeysHandle,
-    alloc: Global,
+pub extern "C" fn vt_lent_keys_string(
+    loan: &mut KeysLoan,
     number: u32,
     text: &mut [u8],
     length: &mut usize,
 ) -> u8
-    ensures same { h.new.value ≡ h.old.value }
-    ensures string { HandsString h.old.value number result
+    ensures same { IsSameLoan loan.old loan.new }
+    ensures string { HandsString loan.old.value number result
         (room_of text.old length.old) (room_of text.new length.new) }
 {
-    let Some(keyboard) = h.take(alloc) else {
-        return code::NOTHING;
+    let lent = loan.take();
+    let answer = match lent.get() {
+        None => code::NOTHING,
+        Some(keyboard) => {
+            if number <= LAST_KEY {
+                hand_over(keyboard.string(number as u8), text, length)
+            } else {
+                code::RANGE
+            }
+        }
     };
-    let answer = if number <= LAST_KEY {
-        hand_over(keyboard.string(number as u8), text, length)
-    } else {
-        code::RANGE
-    };
-    h.put(keyboard);
+    loan.put(lent);
     answer
 }
 
 /// Sets the string of a function key (ioctl_console(2), KDSKBSENT).
 #[unsafe(no_mangle)]
-pub extern "C" fn vt_keys_set_string(
+pub extern "C" fn vt_nonnull_keys_set_string(
     h: &mut KeysHandle,
     alloc: Global,
     number: u32,
@@ -63,8 +67,8 @@ pub extern "C" fn vt_keys_set_string(
     code::OK
 }
 
-// Writes the length of a string, and the string itself if there is room for it.
-fn hand_over(string: &[u8], text: &mut [u8], length: &mut usize) -> u8
+/// Writes the length of a string, and the string itself if there is room for it.
+pub(crate) fn hand_over(string: &[u8], text: &mut [u8], length: &mut usize) -> u8
     ensures { Hands string.now result (room_of text.old length.old) (room_of text.new length.new) }
 {
     *length = string.len();

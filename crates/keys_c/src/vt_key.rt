@@ -7,17 +7,19 @@ ghost use Rattle.keys_c.specs.Scanning.{out_in_mode};
 use crate::keymap_keyboard::KeymapKeyboard;
 use key_machine::{ShortOut, mode};
 
-/// The result of a scan byte.
+/// The result of a scan byte or a key.
 #[repr(C)]
 #[derive(Drop)]
 pub(crate) struct VtKey {
     /// 0 nothing, 1 bytes for the console's input, 2 a switch to the console of the number, 3 to the
     /// previous one, 4 to the next one, 5 to the one before by number, 6 KeyboardSignal, 7 SAK.
     pub kind: u8,
-    /// The number of the console.
-    pub number: u8,
+    /// 0.
+    pub spare: u8,
     /// How many bytes there are.
     pub length: u16,
+    /// The number of the console.
+    pub number: u32,
     /// The bytes. The places after them stay unchanged.
     pub bytes: [u8; 512],
 }
@@ -35,8 +37,8 @@ impl VtKey {
         }
     }
 
-    // Writes the result of a key event. The string of a function key is that of `from`.
-    fn put_out(&mut self, out: &ShortOut, from: &KeymapKeyboard)
+    /// Writes the result of a key event. The string of a function key is that of `from`.
+    pub(crate) fn put_out(&mut self, out: &ShortOut, from: &KeymapKeyboard)
         ensures { self.new ≡ vt_key_of (out_with from.now.tables out.now) self.old }
     {
         match out {
@@ -68,8 +70,9 @@ impl VtKey {
         ensures { self.new ≡ key_with kind number bytes.now self.old }
     {
         self.kind = kind;
-        self.number = number;
+        self.spare = 0;
         self.length = bytes.len() as u16;
+        self.number = u32::from(number);
         self.bytes[..bytes.len()].copy_from_slice(bytes);
     }
 }

@@ -1,5 +1,5 @@
 ghost use Rattle.std.specs.Prelude.{◌≡◌};
-ghost use Rattle.keys_c.specs.Modes.{modes_of};
+ghost use Rattle.keys_c.specs.Modes.{is_modes, modes_of};
 
 use key_machine::KeyModes;
 
@@ -10,7 +10,9 @@ pub(crate) struct VtModes {
     pub cursor_keys: u8,
     pub keypad: u8,
     pub repeat: u8,
-    pub newline: u8,
+    pub newline_mode: u8,
+    /// 0.
+    pub spare: [u8; 4],
 }
 
 impl VtModes {
@@ -22,7 +24,14 @@ impl VtModes {
             cursor: self.cursor_keys != 0,
             keypad: self.keypad != 0,
             repeat: self.repeat != 0,
-            newline: self.newline != 0,
+            newline: self.newline_mode != 0,
         }
+    }
+
+    /// Whether the spare bytes are 0.
+    pub(crate) fn is_known(&self) -> bool
+        ensures { result ≡ is_modes self.now }
+    {
+        self.spare == [0; 4]
     }
 }

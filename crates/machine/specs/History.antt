@@ -14,7 +14,7 @@ pub record Start : Type 0 where
   pub config : Config
   pub tables : Tables
 
--- the machine at its start
+-- the world at the start
 abbrev pub world_of : Start → WorldState
 world_of s =
     start_world s.config.size.rows s.config.size.cols s.config.consoles s.config.front s.config.keyboards

@@ -13,7 +13,7 @@ use Rattle.vt_world.specs.Laws.{moments}
 use Rattle.vt_world.specs.State.{WorldState}
 use Rattle.vt_world.specs.Step.{HasOutcome, step}
 use Rattle.vt_world.specs.Tapes.{screen_of, tape_of}
-use Rattle.vt_world.specs.Terminals.{machine_of, terminal_at}
+use Rattle.vt_world.specs.Terminals.{emu_of, terminal_at}
 
 -- the start, the world after all calls, how many calls each caller made, the journal of the last calls, and how many
 -- earlier calls are gone from it
@@ -41,7 +41,7 @@ pub record ObeysLaws (m : MachineState) : Type 0 where
   pub displays : IsLawful (moments (world_of m.start) (calls.before ++ m.log.entries))
   pub screens :
       (c : ℕ) → c < 64
-      → machine_of (terminal_at m.world.terminals c)
+      → emu_of (terminal_at m.world.terminals c)
       ≡ option_map (screen_of m.start.config.size.rows m.start.config.size.cols)
       (tape_of c (world_of m.start) (calls.before ++ m.log.entries))
 

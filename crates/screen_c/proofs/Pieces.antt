@@ -6,8 +6,8 @@ use Rattle.std.proofs.Math.Seq.{take-add, take-append_seam, drop-append-add, set
 use Rattle.std.proofs.lemmas.Bool.{cases_lt}
 use Rattle.std.proofs.lemmas.List.{drop-drop, length-append, length-map, map-append, take_all}
 use Rattle.vt_screen.specs.Run.{AnyCut, IsQuietBefore, after, outs_of_option, outs_of_run}
-use Rattle.vt_screen.specs.Screen.{Screen}
-use Rattle.vt_screen.specs.declared.out.Out.{Out}
+use Rattle.vt_canvas.specs.Screen.{Screen}
+use Rattle.vt_canvas.specs.declared.out.Out.{Out}
 use Rattle.vt_units.specs.Run.{Reached}
 
 -- so many bytes behind the first

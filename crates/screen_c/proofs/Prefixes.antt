@@ -1,6 +1,6 @@
 -- Places that are written one after another, from the first.
 use Rattle.screen_c.specs.Places.{with_items}
-use Rattle.std.proofs.Common.{◌≡◌, ℕ, zero, suc, ◌+◌, ◌<◌, ◌≤◌, List, [], ◌∷◌, ◌++◌, length, take, drop, set, get_or, sym, ap, ◌∙◌, min, arith}
+use Rattle.std.proofs.Common.{◌≡◌, ℕ, zero, suc, ◌<◌, ◌≤◌, List, [], ◌∷◌, ◌++◌, length, take, drop, set, get_or, sym, ap, ◌∙◌, min, arith}
 use Rattle.std.proofs.lemmas.List.{take_all, drop_all}
 
 -- one more

@@ -1,4 +1,4 @@
--- The codes that calls return to C, as include/vt.h names them. 6, VT_FAULT, is a code of keys_c alone.
+-- The codes that calls return to C, as libvt/include/vt.h names them. 6, VT_FAULT, is a code of keys_c alone.
 use Rattle.std.specs.Prelude.{ℕ}
 
 -- VT_OK: the call succeeded

@@ -1,6 +1,7 @@
 pub mod Codes
 pub mod Fed
 pub mod Held
+pub mod Loans
 pub mod Marks
 pub mod Places
 pub mod Shown

@@ -5,7 +5,7 @@ use Rattle.screen_c.specs.Shown.{c_flag}
 use Rattle.vt_grid.specs.Grid.{GridView, row_at}
 use Rattle.vt_redraw.specs.Cells.{are_same}
 use Rattle.vt_redraw.specs.Redraw.{IsSameSize, changes_of, redraw_of}
-use Rattle.vt_screen.specs.Screen.{Screen}
+use Rattle.vt_canvas.specs.Screen.{Screen}
 
 -- both have as many rows and columns
 abbrev pub is_same_size : GridView → GridView → Bool

@@ -1,27 +1,38 @@
--- A cell, a colour, the state and an out as C gets them.
+-- A cell, a colour, the state and an out as C gets them. Spare places are 0.
 use Rattle.std.specs.Prelude.{ℕ, ◌-◌, Bool, true, false, ◌++◌, length, replicate}
 use Rattle.screen_c.specs.declared.vt_cell.VtCell.{VtCell}
 use Rattle.screen_c.specs.declared.vt_colour.VtColour.{VtColour}
+use Rattle.screen_c.specs.declared.vt_modes.VtModes.{VtModes}
 use Rattle.screen_c.specs.declared.vt_out.VtOut.{VtOut}
 use Rattle.screen_c.specs.declared.vt_state.VtState.{VtState}
 use Rattle.vt_cells.specs.Colours.{Rgb}
 use Rattle.vt_cells.specs.declared.cell.Cell.{Cell}
-use Rattle.vt_screen.specs.Screen.{Screen}
-use Rattle.vt_screen.specs.declared.out.Out.TheVariants.{Bell, Lights, Report, SwitchLast, SwitchTo}
-use Rattle.vt_screen.specs.declared.out.Out.{Out}
+use Rattle.vt_canvas.specs.Screen.{Screen}
+use Rattle.vt_canvas.specs.declared.out.Out.TheVariants.{Bell, Lights, Report, SwitchLast, SwitchTo}
+use Rattle.vt_canvas.specs.declared.out.Out.{Out}
 
 abbrev pub c_cell : Cell → VtCell
-c_cell cell = record { code = cell.code; attr = cell.attr }
+c_cell cell = record { code = cell.code; attr = cell.attr; spare = replicate 3 0 }
 
 abbrev pub c_colour : Rgb → VtColour
-c_colour rgb = record { red = rgb.0; green = rgb.1; blue = rgb.2 }
+c_colour rgb = record { red = rgb.0; green = rgb.1; blue = rgb.2; spare = 0 }
 
 -- 1 is yes and 0 is no
 abbrev pub c_flag : Bool → ℕ
 c_flag true = 1
 c_flag false = 0
 
--- the size, the cursor, and the modes DECTECM, DECSCNM, DECCKM, DECPAM, LNM and DECARM
+-- the modes DECCKM, DECPAM, DECARM and LNM
+abbrev pub c_modes : Screen → VtModes
+c_modes s = record {
+  cursor_keys = c_flag s.state.cursor;
+  keypad = c_flag s.state.keypad;
+  repeat = c_flag s.state.repeat;
+  newline_mode = c_flag s.state.newline;
+  spare = replicate 4 0;
+}
+
+-- the size, the cursor, the modes DECTECM, DECSCNM, DECOM, DECAWM, IRM and DECCRM, and those that keys depend on
 abbrev pub c_state : Screen → VtState
 c_state s = record {
   rows = s.grid.rows;
@@ -30,23 +41,32 @@ c_state s = record {
   x = s.state.x;
   visible = c_flag s.state.visible;
   reverse = c_flag s.state.reverse;
-  cursor_keys = c_flag s.state.cursor;
-  keypad = c_flag s.state.keypad;
-  newline = c_flag s.state.newline;
-  repeat = c_flag s.state.repeat;
+  origin = c_flag s.state.origin;
+  autowrap = c_flag s.state.autowrap;
+  insert = c_flag s.state.insert;
+  controls = c_flag s.state.pen.display;
+  modes = c_modes s;
+  spare = replicate 10 0;
 }
 
 -- no text, only a kind and a number
 abbrev pub plain_out : ℕ → ℕ → VtOut
-plain_out kind number = record { kind = kind; number = number; length = 0; text = replicate 16 0 }
+plain_out kind number = record {
+  kind = kind;
+  length = 0;
+  number = number;
+  text = replicate 16 0;
+  spare = replicate 3 0;
+}
 
 -- 1 is a report, 2 and 3 ask for another console, 4 sets the lights and 5 rings
 abbrev pub c_out : Out → VtOut
 c_out (Report text) = record {
   kind = 1;
-  number = 0;
   length = length text;
+  number = 0;
   text = text ++ replicate (16 - length text) 0;
+  spare = replicate 3 0;
 }
 c_out (SwitchTo n) = plain_out 2 n
 c_out SwitchLast = plain_out 3 0

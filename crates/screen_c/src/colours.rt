@@ -1,63 +1,34 @@
 //! The colours and the user's table of a screen.
-ghost use Rattle.std.specs.Prelude.{◌≡◌, ◌<◌, ◌≤◌, ◌⊎◌, map, slice_get, slice_set, IfNone, IfSome, None, Some};
+ghost use Rattle.std.specs.Prelude.{◌≡◌, ◌<◌, ◌≤◌, ◌⊎◌, map, slice_set, IfNone, IfSome, None, Some};
 ghost use Rattle.screen_c.specs.Codes.{NOTHING, OK, RANGE};
-ghost use Rattle.screen_c.specs.Held.{with_machine};
+ghost use Rattle.screen_c.specs.Held.{with_emu};
+ghost use Rattle.screen_c.specs.Loans.{IsSameLoan};
 ghost use Rattle.screen_c.specs.Places.{with_items};
 ghost use Rattle.screen_c.specs.Shown.{c_colour};
-ghost use Rattle.vt_cells.specs.Colours.{Rgb};
-ghost use Rattle.vt_screen.specs.Tape.{palette, user_map, with_change};
+ghost use Rattle.vt_screen.specs.Tape.{with_change};
+ghost use Rattle.vt_canvas.specs.Change.{palette, user_map};
 
-use crate::{ScreenHandle, VtColour, code};
+use crate::{ScreenHandle, ScreenLoan, VtColour, code};
 use std::alloc::Global;
-
-/// The colour of a number.
-#[unsafe(no_mangle)]
-pub extern "C" fn vt_screen_colour(
-    handle: &mut ScreenHandle,
-    number: u32,
-    colour: &mut VtColour,
-    alloc: Global,
-) -> u8
-    ensures same { handle.new.value ≡ handle.old.value }
-    ensures nothing { IfNone handle.old.value ((result ≡ NOTHING) × (colour.new ≡ colour.old)) }
-    ensures colour { IfSome handle.old.value (λ o.
-        ((result ≡ OK) × (number < 16)
-        × ((rgb : Rgb) × (slice_get o.machine.state.state.palette number ≡ Some rgb) × (colour.new ≡ c_colour rgb)))
-        ⊎ ((result ≡ RANGE) × (16 ≤ number) × (colour.new ≡ colour.old))) }
-{
-    match handle.take(alloc) {
-        None => code::NOTHING,
-        Some(owned) => {
-            let within = number < 16;
-            if within {
-                *colour = VtColour::of(owned.emu.state().palette.get(number as u8));
-            }
-            handle.put(owned);
-            if within { code::OK } else { code::RANGE }
-        }
-    }
-}
 
 /// The colours of the numbers 0 to 15.
 #[unsafe(no_mangle)]
-pub extern "C" fn vt_screen_palette(
-    handle: &mut ScreenHandle,
-    colours: &mut [VtColour],
-    alloc: Global,
-) -> u8
-    ensures same { handle.new.value ≡ handle.old.value }
-    ensures nothing { IfNone handle.old.value ((result ≡ NOTHING) × (colours.new ≡ colours.old)) }
-    ensures colours { IfSome handle.old.value (λ o. (result ≡ OK)
-        × (colours.new ≡ with_items (map c_colour o.machine.state.state.palette) colours.old)) }
+pub extern "C" fn vt_lent_screen_palette(loan: &mut ScreenLoan, colours: &mut [VtColour]) -> u8
+    ensures same { IsSameLoan loan.old loan.new }
+    ensures nothing { IfNone loan.old.value ((result ≡ NOTHING) × (colours.new ≡ colours.old)) }
+    ensures colours { IfSome loan.old.value (λ o. (result ≡ OK)
+        × (colours.new ≡ with_items (map c_colour o.emu.state.state.palette) colours.old)) }
 {
-    match handle.take(alloc) {
+    let lent = loan.take();
+    let answer = match lent.get() {
         None => code::NOTHING,
-        Some(owned) => {
-            put_colours(owned.emu.state().palette.as_slice(), colours);
-            handle.put(owned);
+        Some(screen) => {
+            put_colours(screen.emu.state().palette.as_slice(), colours);
             code::OK
         }
-    }
+    };
+    loan.put(lent);
+    answer
 }
 
 // Writes the colours into the first places.
@@ -83,10 +54,10 @@ pub extern "C" fn vt_screen_set_colour(
     alloc: Global,
 ) -> u8
     ensures nothing { IfNone handle.old.value ((result ≡ NOTHING) × (handle.new.value ≡ None)) }
-    ensures colour { IfSome handle.old.value (λ o. let old = o.machine.state.state.palette in
+    ensures colour { IfSome handle.old.value (λ o. let old = o.emu.state.state.palette in
         ((result ≡ OK) × (number < 16)
-        × (handle.new.value ≡ Some (with_machine
-        (with_change (palette (slice_set old number (red, green, blue))) o.machine) o)))
+        × (handle.new.value ≡ Some (with_emu
+        (with_change (palette (slice_set old number (red, green, blue))) o.emu) o)))
         ⊎ ((result ≡ RANGE) × (16 ≤ number) × (handle.new.value ≡ Some o))) }
 {
     match handle.take(alloc) {
@@ -115,7 +86,7 @@ pub extern "C" fn vt_screen_set_user(
 ) -> u8
     ensures nothing { IfNone handle.old.value ((result ≡ NOTHING) × (handle.new.value ≡ None)) }
     ensures table { IfSome handle.old.value (λ o. (result ≡ OK)
-        × (handle.new.value ≡ Some (with_machine (with_change (user_map words.now) o.machine) o))) }
+        × (handle.new.value ≡ Some (with_emu (with_change (user_map words.now) o.emu) o))) }
 {
     match handle.take(alloc) {
         None => code::NOTHING,

@@ -2,10 +2,10 @@
 ghost use Rattle.std.specs.Prelude.{◌≡◌, ◌<◌, ◌≤◌, ◌+◌, ◌++◌, drop, length, map, take, IfNone, IfSome, None, Some};
 ghost use Rattle.screen_c.specs.Codes.{NOTHING, OK};
 ghost use Rattle.screen_c.specs.Fed.{IsFed};
-ghost use Rattle.screen_c.specs.Held.{with_machine};
+ghost use Rattle.screen_c.specs.Held.{with_emu};
 ghost use Rattle.screen_c.specs.Shown.{c_out};
 ghost use Rattle.vt_screen.specs.Run.{after, outs_of_option};
-ghost use Rattle.vt_screen.specs.Screen.{Screen};
+ghost use Rattle.vt_canvas.specs.Screen.{Screen};
 ghost use Rattle.vt_units.specs.Run.{Reached};
 
 use crate::{ScreenHandle, VtFed, VtOut, code};
@@ -14,7 +14,7 @@ use vt_screen::{Emu, SideEffect, any_cut};
 
 /// Runs a text up to its end, or until `outs` is full, and writes its reports, bells and requests to `outs`.
 #[unsafe(no_mangle)]
-pub extern "C" fn vt_screen_feed(
+pub extern "C" fn vt_nonnull_screen_feed(
     handle: &mut ScreenHandle,
     bytes: &[u8],
     outs: &mut [VtOut],
@@ -24,8 +24,8 @@ pub extern "C" fn vt_screen_feed(
     ensures nothing { IfNone handle.old.value ((result ≡ NOTHING) × (handle.new.value ≡ None)
         × (outs.new ≡ outs.old) × (fed.new ≡ fed.old)) }
     ensures screen { IfSome handle.old.value (λ o. (result ≡ OK)
-        × ((end : Reached Screen) × (handle.new.value ≡ Some (with_machine end o))
-        × IsFed o.machine bytes.now outs.old outs.new fed.new end)) }
+        × ((end : Reached Screen) × (handle.new.value ≡ Some (with_emu end o))
+        × IsFed o.emu bytes.now outs.old outs.new fed.new end)) }
 {
     match handle.take(alloc) {
         None => code::NOTHING,
@@ -40,10 +40,14 @@ pub extern "C" fn vt_screen_feed(
 
 /// Runs a whole text, and drops its reports, bells and requests.
 #[unsafe(no_mangle)]
-pub extern "C" fn vt_screen_write(handle: &mut ScreenHandle, bytes: &[u8], alloc: Global) -> u8
+pub extern "C" fn vt_nonnull_screen_write(
+    handle: &mut ScreenHandle,
+    bytes: &[u8],
+    alloc: Global,
+) -> u8
     ensures nothing { IfNone handle.old.value ((result ≡ NOTHING) × (handle.new.value ≡ None)) }
     ensures screen { IfSome handle.old.value (λ o. (result ≡ OK)
-        × (handle.new.value ≡ Some (with_machine (after o.machine bytes.now) o))) }
+        × (handle.new.value ≡ Some (with_emu (after o.emu bytes.now) o))) }
 {
     match handle.take(alloc) {
         None => code::NOTHING,
@@ -68,7 +72,11 @@ fn feed(emu: &mut Emu, b: &[u8], places: &mut [VtOut]) -> VtFed
         at += emu.write_until(&b[at..], &mut effect);
         n += put_effect(&effect, places, n);
     }
-    VtFed { taken: at, said: n }
+    VtFed {
+        taken: at,
+        outs: n,
+        spare: [0; 2],
+    }
 }
 
 // Writes a side effect, if there is one, into a place. Returns the number of places that were written.

@@ -1,4 +1,4 @@
-//! The screen machine for programs in C: `vt_screen` of `include/vt.h`.
+//! The screen machine for programs in C: `vt_screen` of `libvt/include/vt.h`.
 #![tactic(auto)]
 
 mod code;
@@ -6,22 +6,28 @@ mod colours;
 mod feeding;
 mod handing_over;
 mod handle;
+mod lent_screen;
 mod life;
+mod loan;
 mod marks;
 mod owned_screen;
+mod picturing;
 mod reading;
 mod redrawing;
 mod sending;
 mod vt_cell;
 mod vt_colour;
 mod vt_fed;
+mod vt_modes;
 mod vt_out;
 mod vt_state;
 
 pub use handle::ScreenHandle;
+pub use loan::ScreenLoan;
 pub use owned_screen::OwnedScreen;
 pub use vt_cell::VtCell;
 pub use vt_colour::VtColour;
 pub use vt_fed::VtFed;
+pub use vt_modes::VtModes;
 pub use vt_out::VtOut;
 pub use vt_state::VtState;

@@ -1,9 +1,10 @@
 //! Makes, frees and resizes a screen.
 ghost use Rattle.std.specs.Prelude.{◌≡◌, ◌⊎◌, IfNone, IfOk, IfSome, None, Some};
 ghost use Rattle.screen_c.specs.Codes.{MADE, NOTHING, NO_MEMORY, OK, RANGE};
-ghost use Rattle.screen_c.specs.Held.{new_screen, with_machine};
+ghost use Rattle.screen_c.specs.Held.{new_screen, unmarked};
 ghost use Rattle.screen_c.specs.Sizes.{IsSize};
-ghost use Rattle.vt_screen.specs.Tape.{resize, with_change};
+ghost use Rattle.vt_screen.specs.Tape.{with_change};
+ghost use Rattle.vt_canvas.specs.Change.{resize};
 
 use crate::{OwnedScreen, ScreenHandle, code};
 use std::alloc::Global;
@@ -51,7 +52,7 @@ pub extern "C" fn vt_screen_free(handle: &mut ScreenHandle, alloc: Global)
     let _ = handle.take(alloc);
 }
 
-/// Gives the screen this many rows and columns, 1 to 255 each. The pending text and the mark stay.
+/// Gives the screen this many rows and columns, 1 to 255 each. The pending text stays; the mark goes.
 #[unsafe(no_mangle)]
 pub extern "C" fn vt_screen_resize(
     handle: &mut ScreenHandle,
@@ -64,7 +65,7 @@ pub extern "C" fn vt_screen_resize(
         → (result ≡ RANGE) × (handle.new.value ≡ Some o)) }
     ensures fine { IfSome handle.old.value (λ o. IsSize rows cols
         → ((result ≡ OK)
-        × (handle.new.value ≡ Some (with_machine (with_change (resize rows cols) o.machine) o)))
+        × (handle.new.value ≡ Some (unmarked (with_change (resize rows cols) o.emu))))
         ⊎ ((result ≡ NO_MEMORY) × (handle.new.value ≡ Some o))) }
 {
     match handle.take(alloc) {
@@ -97,7 +98,7 @@ impl OwnedScreen {
     fn resize(&mut self, alloc: Global, rows: u32, cols: u32) -> u8
         ensures range { ¬ (IsSize rows cols) → (result ≡ RANGE) × (self.new ≡ self.old) }
         ensures fine { IsSize rows cols
-            → ((result ≡ OK) × (self.new ≡ with_machine (with_change (resize rows cols) self.old.machine) self.old))
+            → ((result ≡ OK) × (self.new ≡ unmarked (with_change (resize rows cols) self.old.emu)))
             ⊎ ((result ≡ NO_MEMORY) × (self.new ≡ self.old)) }
     {
         match size_of(rows, cols) {
@@ -106,6 +107,7 @@ impl OwnedScreen {
                 Err(_) => code::NO_MEMORY,
                 Ok(fresh) => {
                     let _ = self.emu.resize(fresh);
+                    self.mark = None;
                     code::OK
                 }
             },

@@ -2,12 +2,13 @@
 ghost use Rattle.std.specs.Prelude.{◌≡◌, ◌⊎◌, ◌<◌, IfNone, IfSome, IsTrue, None, Some};
 ghost use Rattle.screen_c.specs.Codes.{NOTHING, NO_MEMORY, OK};
 ghost use Rattle.screen_c.specs.Held.{with_mark};
+ghost use Rattle.screen_c.specs.Loans.{IsSameLoan};
 ghost use Rattle.screen_c.specs.Marks.{changed_flags, is_as_marked, is_changed, is_same_size};
 ghost use Rattle.vt_redraw.specs.Redraw.{IsSameSize};
 ghost use Rattle.screen_c.specs.Places.{with_items};
 ghost use Rattle.screen_c.specs.Shown.{c_flag};
 
-use crate::{OwnedScreen, ScreenHandle, code};
+use crate::{OwnedScreen, ScreenHandle, ScreenLoan, code};
 use std::alloc::Global;
 use vt_grid::Grid;
 use vt_screen::BLANK;
@@ -33,20 +34,22 @@ pub extern "C" fn vt_screen_mark(handle: &mut ScreenHandle, alloc: Global) -> u8
 
 /// Writes whether each row differs from the marked cells, from the top: 1 or 0.
 #[unsafe(no_mangle)]
-pub extern "C" fn vt_screen_changed(handle: &mut ScreenHandle, rows: &mut [u8], alloc: Global) -> u8
-    ensures same { handle.new.value ≡ handle.old.value }
-    ensures nothing { IfNone handle.old.value ((result ≡ NOTHING) × (rows.new ≡ rows.old)) }
-    ensures rows { IfSome handle.old.value (λ o. (result ≡ OK)
-        × (rows.new ≡ with_items (changed_flags o.mark o.machine.state.grid) rows.old)) }
+pub extern "C" fn vt_lent_screen_changed(loan: &mut ScreenLoan, rows: &mut [u8]) -> u8
+    ensures same { IsSameLoan loan.old loan.new }
+    ensures nothing { IfNone loan.old.value ((result ≡ NOTHING) × (rows.new ≡ rows.old)) }
+    ensures rows { IfSome loan.old.value (λ o. (result ≡ OK)
+        × (rows.new ≡ with_items (changed_flags o.mark o.emu.state.grid) rows.old)) }
 {
-    match handle.take(alloc) {
+    let lent = loan.take();
+    let answer = match lent.get() {
         None => code::NOTHING,
-        Some(owned) => {
-            put_flags(&owned.mark, owned.emu.grid(), rows);
-            handle.put(owned);
+        Some(screen) => {
+            put_flags(&screen.mark, screen.emu.grid(), rows);
             code::OK
         }
-    }
+    };
+    loan.put(lent);
+    answer
 }
 
 impl OwnedScreen {

@@ -14,5 +14,5 @@ impl Model for OwnedScreen {
 
     ghost Value = { OwnedScreenView };
 
-    ghost view = { λ s. record { machine = s.emu; mark = s.mark } };
+    ghost view = { λ s. record { emu = s.emu; mark = s.mark } };
 }

@@ -2,6 +2,7 @@
 ghost use Rattle.std.specs.Prelude.{◌≡◌, ◌<◌, ◌≤◌, ◌⊎◌, map, IfNone, IfSome, None, Some};
 ghost use Rattle.std.specs.List.{flat_map};
 ghost use Rattle.screen_c.specs.Codes.{NOTHING, OK, RANGE};
+ghost use Rattle.screen_c.specs.Loans.{IsSameLoan};
 ghost use Rattle.screen_c.specs.Places.{with_items};
 ghost use Rattle.screen_c.specs.Shown.{c_cell, c_state};
 ghost use Rattle.screen_c.specs.Text.{HandsOver};
@@ -10,123 +11,134 @@ ghost use Rattle.vt_dump.specs.Rows.{cell_text};
 ghost use Rattle.vt_grid.specs.Grid.{HasCellAt, row_at};
 
 use crate::handing_over::hand_over;
-use crate::{OwnedScreen, ScreenHandle, VtCell, VtState, code};
+use crate::{OwnedScreen, ScreenLoan, VtCell, VtState, code};
 use std::alloc::Global;
 use vt_dump::text_row;
 use vt_grid::Grid;
 
 /// The size, the cursor and the modes.
 #[unsafe(no_mangle)]
-pub extern "C" fn vt_screen_state(
-    handle: &mut ScreenHandle,
-    state: &mut VtState,
-    alloc: Global,
-) -> u8
-    ensures same { handle.new.value ≡ handle.old.value }
-    ensures nothing { IfNone handle.old.value ((result ≡ NOTHING) × (state.new ≡ state.old)) }
-    ensures state { IfSome handle.old.value (λ o. (result ≡ OK) × (state.new ≡ c_state o.machine.state)) }
+pub extern "C" fn vt_lent_screen_state(loan: &mut ScreenLoan, state: &mut VtState) -> u8
+    ensures same { IsSameLoan loan.old loan.new }
+    ensures nothing { IfNone loan.old.value ((result ≡ NOTHING) × (state.new ≡ state.old)) }
+    ensures state { IfSome loan.old.value (λ o. (result ≡ OK) × (state.new ≡ c_state o.emu.state)) }
 {
-    match handle.take(alloc) {
+    let lent = loan.take();
+    let answer = match lent.get() {
         None => code::NOTHING,
-        Some(owned) => {
-            *state = VtState::of(&owned.emu);
-            handle.put(owned);
+        Some(screen) => {
+            *state = VtState::of(&screen.emu);
             code::OK
         }
-    }
+    };
+    loan.put(lent);
+    answer
 }
 
 /// The cell in this row and column.
 #[unsafe(no_mangle)]
-pub extern "C" fn vt_screen_cell(
-    handle: &mut ScreenHandle,
+pub extern "C" fn vt_lent_screen_cell(
+    loan: &mut ScreenLoan,
     row: u32,
     col: u32,
     cell: &mut VtCell,
-    alloc: Global,
 ) -> u8
-    ensures same { handle.new.value ≡ handle.old.value }
-    ensures nothing { IfNone handle.old.value ((result ≡ NOTHING) × (cell.new ≡ cell.old)) }
-    ensures cell { IfSome handle.old.value (λ o. let grid = o.machine.state.grid in
+    ensures same { IsSameLoan loan.old loan.new }
+    ensures nothing { IfNone loan.old.value ((result ≡ NOTHING) × (cell.new ≡ cell.old)) }
+    ensures cell { IfSome loan.old.value (λ o. let grid = o.emu.state.grid in
         ((result ≡ OK) × (row < grid.rows) × (col < grid.cols)
         × ((c : Cell) × HasCellAt grid row col c × (cell.new ≡ c_cell c)))
         ⊎ ((result ≡ RANGE) × ((grid.rows ≤ row) ⊎ (grid.cols ≤ col)) × (cell.new ≡ cell.old))) }
 {
-    match handle.take(alloc) {
+    let lent = loan.take();
+    let answer = match lent.get() {
         None => code::NOTHING,
-        Some(owned) => {
-            let size = owned.emu.grid().size();
-            let within = row < u32::from(size.rows) && col < u32::from(size.cols);
-            if within {
-                *cell = VtCell::of(owned.emu.grid().at(row as u8, col as u8));
-            }
-            handle.put(owned);
-            if within { code::OK } else { code::RANGE }
-        }
-    }
+        Some(screen) => screen.cell(row, col, cell),
+    };
+    loan.put(lent);
+    answer
 }
 
 /// The cells of a row from its left.
 #[unsafe(no_mangle)]
-pub extern "C" fn vt_screen_row(
-    handle: &mut ScreenHandle,
-    row: u32,
-    cells: &mut [VtCell],
-    alloc: Global,
-) -> u8
-    ensures same { handle.new.value ≡ handle.old.value }
-    ensures nothing { IfNone handle.old.value ((result ≡ NOTHING) × (cells.new ≡ cells.old)) }
-    ensures cells { IfSome handle.old.value (λ o. let grid = o.machine.state.grid in
+pub extern "C" fn vt_lent_screen_row(loan: &mut ScreenLoan, row: u32, cells: &mut [VtCell]) -> u8
+    ensures same { IsSameLoan loan.old loan.new }
+    ensures nothing { IfNone loan.old.value ((result ≡ NOTHING) × (cells.new ≡ cells.old)) }
+    ensures cells { IfSome loan.old.value (λ o. let grid = o.emu.state.grid in
         ((result ≡ OK) × (row < grid.rows)
         × (cells.new ≡ with_items (map c_cell (row_at grid row)) cells.old))
         ⊎ ((result ≡ RANGE) × (grid.rows ≤ row) × (cells.new ≡ cells.old))) }
 {
-    match handle.take(alloc) {
+    let lent = loan.take();
+    let answer = match lent.get() {
         None => code::NOTHING,
-        Some(owned) => {
-            let within = row < u32::from(owned.emu.grid().size().rows);
-            if within {
-                put_cells(owned.emu.grid(), row as u8, cells);
-            }
-            handle.put(owned);
-            if within { code::OK } else { code::RANGE }
-        }
-    }
+        Some(screen) => screen.row(row, cells),
+    };
+    loan.put(lent);
+    answer
 }
 
 /// The characters of a row in UTF-8.
 #[unsafe(no_mangle)]
-pub extern "C" fn vt_screen_row_text(
-    handle: &mut ScreenHandle,
+pub extern "C" fn vt_lent_screen_row_text(
+    loan: &mut ScreenLoan,
     row: u32,
     text: &mut [u8],
     count: &mut usize,
     alloc: Global,
 ) -> u8
-    ensures same { handle.new.value ≡ handle.old.value }
-    ensures nothing { IfNone handle.old.value ((result ≡ NOTHING) × (text.new ≡ text.old) × (count.new ≡ count.old)) }
-    ensures range { IfSome handle.old.value (λ o. o.machine.state.grid.rows ≤ row
+    ensures same { IsSameLoan loan.old loan.new }
+    ensures nothing { IfNone loan.old.value ((result ≡ NOTHING) × (text.new ≡ text.old) × (count.new ≡ count.old)) }
+    ensures range { IfSome loan.old.value (λ o. o.emu.state.grid.rows ≤ row
         → (result ≡ RANGE) × (text.new ≡ text.old) × (count.new ≡ count.old)) }
-    ensures text { IfSome handle.old.value (λ o. row < o.machine.state.grid.rows
-        → HandsOver (flat_map cell_text (row_at o.machine.state.grid row))
+    ensures text { IfSome loan.old.value (λ o. row < o.emu.state.grid.rows
+        → HandsOver (flat_map cell_text (row_at o.emu.state.grid row))
         text.old text.new count.old count.new result) }
 {
-    match handle.take(alloc) {
+    let lent = loan.take();
+    let answer = match lent.get() {
         None => code::NOTHING,
-        Some(owned) => {
-            let answer = owned.row_text(alloc, row, text, count);
-            handle.put(owned);
-            answer
-        }
-    }
+        Some(screen) => screen.row_text(alloc, row, text, count),
+    };
+    loan.put(lent);
+    answer
 }
 
 impl OwnedScreen {
+    fn cell(&self, row: u32, col: u32, cell: &mut VtCell) -> u8
+        ensures { let grid = self.now.emu.state.grid in
+            ((result ≡ OK) × (row < grid.rows) × (col < grid.cols)
+            × ((c : Cell) × HasCellAt grid row col c × (cell.new ≡ c_cell c)))
+            ⊎ ((result ≡ RANGE) × ((grid.rows ≤ row) ⊎ (grid.cols ≤ col)) × (cell.new ≡ cell.old)) }
+    {
+        let grid = self.emu.grid();
+        let size = grid.size();
+        if u32::from(size.rows) <= row || u32::from(size.cols) <= col {
+            return code::RANGE;
+        }
+        *cell = VtCell::of(grid.at(row as u8, col as u8));
+        code::OK
+    }
+
+    fn row(&self, row: u32, cells: &mut [VtCell]) -> u8
+        ensures { let grid = self.now.emu.state.grid in
+            ((result ≡ OK) × (row < grid.rows)
+            × (cells.new ≡ with_items (map c_cell (row_at grid row)) cells.old))
+            ⊎ ((result ≡ RANGE) × (grid.rows ≤ row) × (cells.new ≡ cells.old)) }
+    {
+        let grid = self.emu.grid();
+        if u32::from(grid.size().rows) <= row {
+            return code::RANGE;
+        }
+        put_cells(grid, row as u8, cells);
+        code::OK
+    }
+
     fn row_text(&self, alloc: Global, row: u32, text: &mut [u8], count: &mut usize) -> u8
-        ensures range { self.now.machine.state.grid.rows ≤ row
+        ensures range { self.now.emu.state.grid.rows ≤ row
             → (result ≡ RANGE) × (text.new ≡ text.old) × (count.new ≡ count.old) }
-        ensures text { row < self.now.machine.state.grid.rows
-            → HandsOver (flat_map cell_text (row_at self.now.machine.state.grid row))
+        ensures text { row < self.now.emu.state.grid.rows
+            → HandsOver (flat_map cell_text (row_at self.now.emu.state.grid row))
             text.old text.new count.old count.new result }
     {
         let grid = self.emu.grid();

@@ -11,6 +11,8 @@ pub struct VtCell {
     pub code: u32,
     /// The attribute byte of a VGA text cell.
     pub attr: u8,
+    /// 0.
+    pub spare: [u8; 3],
 }
 
 impl VtCell {
@@ -20,6 +22,7 @@ impl VtCell {
         VtCell {
             code: cell.code,
             attr: cell.attr,
+            spare: [0; 3],
         }
     }
 }

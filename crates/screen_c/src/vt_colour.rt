@@ -8,6 +8,8 @@ pub struct VtColour {
     pub red: u8,
     pub green: u8,
     pub blue: u8,
+    /// 0.
+    pub spare: u8,
 }
 
 impl VtColour {
@@ -18,6 +20,7 @@ impl VtColour {
             red: rgb.0,
             green: rgb.1,
             blue: rgb.2,
+            spare: 0,
         }
     }
 }

@@ -5,5 +5,7 @@ pub struct VtFed {
     /// How many bytes were run.
     pub taken: usize,
     /// How many places were written.
-    pub said: usize,
+    pub outs: usize,
+    /// 0.
+    pub spare: [usize; 2],
 }

@@ -12,12 +12,14 @@ const REPORT_BYTES: usize = 16;
 pub struct VtOut {
     /// The kind: 1 a report, 2 a console to bring to the front, 3 the previous one, 4 lights, 5 a bell.
     pub kind: u8,
-    /// The console's number, or the lights.
-    pub number: u8,
     /// How many bytes the report has.
     pub length: u8,
+    /// The console's number, or the lights.
+    pub number: u16,
     /// The report, and then zeros.
     pub text: [u8; 16],
+    /// 0.
+    pub spare: [u32; 3],
 }
 
 impl VtOut {
@@ -39,14 +41,16 @@ impl VtOut {
         ensures number { result.number ≡ 0 }
         ensures length { result.length ≡ length text.now }
         ensures text { result.text ≡ text.now ++ replicate (16 - length text.now) 0 }
+        ensures spare { result.spare ≡ replicate 3 0 }
     {
         let mut bytes = [0; REPORT_BYTES];
         bytes[..text.len()].copy_from_slice(text);
         VtOut {
             kind: 1,
-            number: 0,
             length: text.len() as u8,
+            number: 0,
             text: bytes,
+            spare: [0; 3],
         }
     }
 
@@ -55,9 +59,10 @@ impl VtOut {
     {
         VtOut {
             kind,
-            number,
             length: 0,
+            number: u16::from(number),
             text: [0; REPORT_BYTES],
+            spare: [0; 3],
         }
     }
 }

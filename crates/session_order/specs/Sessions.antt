@@ -14,7 +14,7 @@ use Rattle.vt_world.specs.Laws.{moments}
 use Rattle.vt_world.specs.Start.{start_world}
 use Rattle.vt_world.specs.State.{WorldState, core}
 use Rattle.vt_world.specs.Tapes.{screen_of, tape_of}
-use Rattle.vt_world.specs.Terminals.{machine_of, terminal_at}
+use Rattle.vt_world.specs.Terminals.{emu_of, terminal_at}
 
 -- the machine that a session begins with
 abbrev pub start_of : SessionView → WorldState
@@ -31,7 +31,7 @@ setup_of s = record { start = start_of s; programs = s.programs; limits = s.limi
 abbrev pub ShowsTapes : SessionView → WorldState → List Entry → Type 0
 ShowsTapes s world history =
     (c : ℕ) → c < 64
-    → machine_of (terminal_at world.terminals c)
+    → emu_of (terminal_at world.terminals c)
     ≡ option_map (screen_of s.config.size.rows s.config.size.cols) (tape_of c (start_of s) history)
 
 -- only callers have programs

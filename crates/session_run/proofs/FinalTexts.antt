@@ -7,7 +7,7 @@ use Rattle.vt_journal.proofs.Lines.{joined_by_blanks-cons}
 use Rattle.vt_journal.specs.Journal.{line_text}
 use Rattle.vt_journal.specs.Text.{blank_before_each}
 use Rattle.session_run.proofs.Texts.{text_more}
-use Rattle.session_run.specs.Final.{consoles_text, place_text}
+use Rattle.session_run.specs.Final.{consoles_text, console_part}
 use Rattle.vt_world.specs.Inputs.{input_at}
 use Rattle.vt_world.specs.State.{WorldState}
 use Rattle.vt_world.specs.Terminals.{terminal_at}
@@ -15,19 +15,19 @@ use Rattle.vt_world.specs.Terminals.{terminal_at}
 -- the consoles from one on are that one and those from the next on
 next_console : (w : WorldState) (n : ℕ) → n ≤ 63
     → consoles_text w n (64 - n)
-    ≡ place_text n (terminal_at w.terminals n) (input_at w.inputs n).queue ++ consoles_text w (n + 1) (64 - (n + 1))
+    ≡ console_part n (terminal_at w.terminals n) (input_at w.inputs n).queue ++ consoles_text w (n + 1) (64 - (n + 1))
 next_console w n within =
     let len : 64 - n ≡ suc (64 - (n + 1)) = omega (arith, within) in
     ap (consoles_text w n) len
 
 -- the text so far and the rest stay the whole when the next console is added
 pub consoles_more : (w : WorldState) (n : ℕ) (old new whole : List ℕ) → n ≤ 63
-    → new ≡ old ++ place_text n (terminal_at w.terminals n) (input_at w.inputs n).queue
+    → new ≡ old ++ console_part n (terminal_at w.terminals n) (input_at w.inputs n).queue
     → old ++ consoles_text w n (64 - n) ≡ whole
     → new ++ consoles_text w (n + 1) (64 - (n + 1)) ≡ whole
 consoles_more w n old new whole within added so_far =
     ap (λ text. text ++ consoles_text w (n + 1) (64 - (n + 1))) added
-    ∙ append_assoc old (place_text n (terminal_at w.terminals n) (input_at w.inputs n).queue) (consoles_text w (n + 1) (64 - (n + 1)))
+    ∙ append_assoc old (console_part n (terminal_at w.terminals n) (input_at w.inputs n).queue) (consoles_text w (n + 1) (64 - (n + 1)))
     ∙ ap (λ more. old ++ more) (sym (next_console w n within))
     ∙ so_far
 

@@ -4,7 +4,7 @@ use Rattle.std.specs.List.{flat_map, range_with_len}
 use Rattle.in_queue.specs.Queue.{Queue}
 use Rattle.vt_journal.specs.Hex.{hex_text}
 use Rattle.vt_journal.specs.Journal.{line_text}
-use Rattle.vt_screen.specs.Screen.{Screen}
+use Rattle.vt_canvas.specs.Screen.{Screen}
 use Rattle.vt_dump.specs.Rows.{rows_text}
 use Rattle.vt_world.specs.Inputs.{input_at}
 use Rattle.vt_world.specs.State.{WorldState}
@@ -27,13 +27,13 @@ console_text n s bells queue =
     line_text (screen_words n s bells)
     ++ (rows_text s.grid.cells ++ line_text (queue_words n queue))
 
-abbrev pub place_text : ℕ → Option TerminalState → Queue → List ℕ
-place_text n None queue = []
-place_text n (Some t) queue = console_text n t.machine.state t.bells queue
+abbrev pub console_part : ℕ → Option TerminalState → Queue → List ℕ
+console_part n None queue = []
+console_part n (Some t) queue = console_text n t.emu.state t.bells queue
 
 -- console n, if it is allocated
 abbrev pub text_at : WorldState → ℕ → List ℕ
-text_at w n = place_text n (terminal_at w.terminals n) (input_at w.inputs n).queue
+text_at w n = console_part n (terminal_at w.terminals n) (input_at w.inputs n).queue
 
 -- the allocated consoles in rising order
 abbrev pub consoles_text : WorldState → ℕ → ℕ → List ℕ

@@ -2,7 +2,7 @@
 ghost use Rattle.std.specs.Prelude.{◌≡◌, ℕ, ◌+◌, ◌<◌, ◌++◌, length, IfOk, OnOk, slice_index_or, vec_len};
 ghost use Rattle.session_run.specs.Final.{consoles_text, final_text, text_at};
 
-use crate::final_texts::{add_display, add_place};
+use crate::final_texts::{add_console_part, add_display};
 use std::alloc::Global;
 use std::thread::{Threads, map_indices};
 use vt_base::{Bytes, NoMemory};
@@ -11,14 +11,14 @@ use vt_journal::add;
 use vt_world::World;
 
 /// How many consoles there are.
-const PLACES: usize = 63;
+const CONSOLES: usize = 63;
 
 /// The final text of a run, the same as that of `final_text`. The text of each console is made by a thread
 /// of its own, or one after another if no thread can be made; then the texts are joined in rising order.
 pub fn final_text_map<R: Threads + Sync>(rt: &R, alloc: Global, r: &Run) -> Result<Bytes, NoMemory>
     ensures { IfOk result (λ text. text.bytes ≡ final_text r.now.world) }
 {
-    let parts = place_texts(rt, alloc, &r.world)?;
+    let parts = console_parts(rt, alloc, &r.world)?;
     let mut text = Bytes::new(alloc);
     add_display(alloc, &mut text, &r.world)?;
     add_parts(alloc, &mut text, &parts, &r.world)?;
@@ -27,7 +27,7 @@ pub fn final_text_map<R: Threads + Sync>(rt: &R, alloc: Global, r: &Run) -> Resu
 }
 
 // The text of each console, by rising number.
-fn place_texts<R: Threads + Sync>(
+fn console_parts<R: Threads + Sync>(
     rt: &R,
     alloc: Global,
     world: &World,
@@ -36,17 +36,22 @@ fn place_texts<R: Threads + Sync>(
     ensures each { IfOk result (λ parts. (i : ℕ) (d : _) → i < 63
         → IfOk (slice_index_or parts.items i d) (λ part. part.bytes ≡ text_at world.now (i + 1))) }
 {
-    let parts = map_indices(rt, alloc, PLACES, &|i: usize| place_text(alloc, world, i))?;
+    let parts = map_indices(
+        rt,
+        alloc,
+        CONSOLES,
+        &|i: usize| console_part(alloc, world, i),
+    )?;
     Ok(parts)
 }
 
 // The text of the console that follows `i` others.
-fn place_text(alloc: Global, world: &World, i: usize) -> Result<Bytes, NoMemory>
+fn console_part(alloc: Global, world: &World, i: usize) -> Result<Bytes, NoMemory>
     requires { i < 63 }
     ensures { IfOk result (λ text. text.bytes ≡ text_at world.now (i + 1)) }
 {
     let mut text = Bytes::new(alloc);
-    add_place(alloc, &mut text, world, i as u16 + 1)?;
+    add_console_part(alloc, &mut text, world, i as u16 + 1)?;
     Ok(text)
 }
 

@@ -2,7 +2,7 @@ ghost use Rattle.std.specs.Prelude.{◌≡◌, ◌≤◌, [], ◌∷◌, ◌++�
 ghost use Rattle.vt_journal.specs.Journal.{line_text};
 ghost use Rattle.session_run.specs.Final.{console_text, consoles_text, final_text, queue_words, text_at};
 ghost use Rattle.vt_world.specs.Inputs.{input_at};
-ghost use Rattle.vt_world.specs.Terminals.{bells_of, machine_of, terminal_at};
+ghost use Rattle.vt_world.specs.Terminals.{bells_of, emu_of, terminal_at};
 
 use in_queue::InQueue;
 use std::alloc::Global;
@@ -47,13 +47,13 @@ fn add_consoles(alloc: Global, text: &mut Bytes, world: &World) -> Result<(), No
     ensures { OnOk result (text.new.bytes ≡ text.old.bytes ++ consoles_text world.now 1 63) }
 {
     for n in 1..64 {
-        add_place(alloc, text, world, n)?;
+        add_console_part(alloc, text, world, n)?;
     }
     Ok(())
 }
 
 /// Adds the text of console `n`, if it is allocated.
-pub(crate) fn add_place(
+pub(crate) fn add_console_part(
     alloc: Global,
     text: &mut Bytes,
     world: &World,

@@ -10,13 +10,9 @@ pub mod ItemWords
 pub mod KeyTyping
 pub mod MadeSession
 pub mod NextCalls
-pub mod OneHook
-pub mod OneItem
-pub mod OneResult
-pub mod OneSession
 pub mod Saying
 pub mod TopReading
 pub mod Turning
-pub mod Waits
 pub mod Walks
 pub mod WhosePrograms
+pub mod for_laws

@@ -6,7 +6,7 @@ use Rattle.vt_base.specs.Bytes.{Text}
 use Rattle.vt_events.specs.Kinds.{text}
 use Rattle.session_text.specs.Parts.{AreOf, IsMadeOf}
 use Rattle.session_text.specs.Sessions.{IsSessionOf, SessionValue, SessionView, keys_of, script_of}
-use Rattle.session_text.specs.declared.opening.SessionHeader.{SessionHeader}
+use Rattle.session_text.specs.declared.session_header.SessionHeader.{SessionHeader}
 use Rattle.session_text.specs.declared.parts.SessionParts.{SessionParts}
 use Rattle.session_text.specs.declared.process.Process.{Process}
 use Rattle.session_text.specs.declared.program.Program.{Program}

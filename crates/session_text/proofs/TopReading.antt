@@ -8,7 +8,7 @@ use Rattle.session_text.specs.Keyboards.{Typed, further_of, keyboards_of, typed_
 use Rattle.session_text.specs.Openings.{opening_of}
 use Rattle.session_text.specs.Tops.{is_top_key, top_of}
 use Rattle.session_text.specs.Turns.{turns_of}
-use Rattle.session_text.specs.declared.opening.SessionHeader.{SessionHeader}
+use Rattle.session_text.specs.declared.session_header.SessionHeader.{SessionHeader}
 
 pub top_read : (table : Members) (p m t : Option Data) (opening : SessionHeader) (typed : Typed) (n k : ℕ)
     (turns : List ℕ) (tables : List Members) (further : List (List ℕ))

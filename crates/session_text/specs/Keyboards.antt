@@ -9,7 +9,7 @@ use Rattle.table_fields.specs.Fields.{bytes_of, few_items_of, keymap_of, scan_by
 use Rattle.table_fields.specs.declared.fault.TableFault.{TableFault}
 use Rattle.toml.specs.Data.{Data, Members, as_str, get_member}
 use Rattle.vt_events.specs.Kinds.{text}
-use Rattle.session_text.specs.declared.keyboard.SessionKeyboard.{SessionKeyboard}
+use Rattle.session_text.specs.declared.session_keyboard.SessionKeyboard.{SessionKeyboard}
 
 -- the lines of the keymap, and the scan bytes of the first keyboard
 pub record Typed : Type 0 where

@@ -9,7 +9,7 @@ use Rattle.table_fields.specs.Fields.{number_in, number_of, number_within}
 use Rattle.table_fields.specs.declared.fault.TableFault.{TableFault}
 use Rattle.toml.specs.Data.{Data, Members, as_integer, get_member}
 use Rattle.vt_base.specs.ConsoleSet.{IsFitSet, is_among}
-use Rattle.session_text.specs.declared.opening.SessionHeader.{SessionHeader}
+use Rattle.session_text.specs.declared.session_header.SessionHeader.{SessionHeader}
 
 -- the consoles of a list in addition to those of a set: each from 1 to 63, and none twice
 abbrev pub consoles_in : ℕ → List ℤ → Result ℕ TableFault

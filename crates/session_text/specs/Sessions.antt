@@ -19,7 +19,7 @@ use Rattle.session_text.specs.Says.{each_says, is, ◌>>=◌}
 use Rattle.session_text.specs.Scripts.{IsScript, process_says}
 use Rattle.session_text.specs.Tops.{top_of}
 use Rattle.session_text.specs.Turns.{is_there, most_turns}
-use Rattle.session_text.specs.declared.opening.SessionHeader.{SessionHeader}
+use Rattle.session_text.specs.declared.session_header.SessionHeader.{SessionHeader}
 use Rattle.session_text.specs.declared.process.Process.{Process}
 use Rattle.session_text.specs.declared.program.Program.{Program}
 use Rattle.session_text.specs.declared.program.Program.TheVariants as programs

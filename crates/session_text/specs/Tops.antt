@@ -11,7 +11,7 @@ use Rattle.toml.specs.Data.{Members, as_table, get_member}
 use Rattle.session_text.specs.Keyboards.{Typed, further_of, keyboards_of, typed_of}
 use Rattle.session_text.specs.Openings.{opening_of}
 use Rattle.session_text.specs.Turns.{turns_of}
-use Rattle.session_text.specs.declared.opening.SessionHeader.{SessionHeader}
+use Rattle.session_text.specs.declared.session_header.SessionHeader.{SessionHeader}
 
 -- the keys of a session, counted from 1 in faults
 abbrev pub is_screen_key : List ℕ → Bool

@@ -1,6 +1,6 @@
-use crate::keyboard::SessionKeyboard;
-use crate::opening::SessionHeader;
 use crate::process::Process;
+use crate::session_header::SessionHeader;
+use crate::session_keyboard::SessionKeyboard;
 use vt_base::Bytes;
 
 /// The parts of a session.

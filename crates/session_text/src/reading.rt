@@ -8,7 +8,7 @@ ghost use Rattle.session_text.specs.Sessions.{IsSessionOf, session_at, session_s
 use crate::Session;
 use crate::making::session;
 use crate::parts::SessionParts;
-use crate::processes::processes;
+use crate::process_fields::processes;
 use crate::tops::read_top;
 use std::alloc::Global;
 use table_fields::{TableError, document};

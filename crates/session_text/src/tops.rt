@@ -9,10 +9,10 @@ ghost use Rattle.session_text.specs.Parts.{IsFitTop, IsTop};
 ghost use Rattle.session_text.specs.Tops.{is_screen_key, is_top_key, top_of};
 
 use crate::further::{further, keyboard_count};
-use crate::keyboard::SessionKeyboard;
-use crate::keyboards::keyboard;
-use crate::opening::SessionHeader;
-use crate::openings::opening;
+use crate::header_fields::opening;
+use crate::keyboard_fields::keyboard;
+use crate::session_header::SessionHeader;
+use crate::session_keyboard::SessionKeyboard;
 use crate::turns::turns;
 use std::alloc::Global;
 use table_fields::fault_code::{OUT_OF_RANGE, UNKNOWN_KEY};

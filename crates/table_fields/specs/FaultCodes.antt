@@ -1,4 +1,4 @@
--- The codes of faults in a TOML table (docs/SESSIONS.md).
+-- The codes of faults in a TOML table (docs/reference/sessions.md).
 use Rattle.std.specs.Prelude.{ℕ}
 
 abbrev pub NO_DOCUMENT : ℕ

@@ -1,4 +1,4 @@
-//! The codes of faults in a TOML table, by their numbers in docs/SESSIONS.md and docs/KEYS.md.
+//! The codes of faults in a TOML table, by their numbers in docs/reference/sessions.md and docs/reference/keys.md.
 
 /// A text that is no TOML document.
 pub const NO_DOCUMENT: u16 = 20;

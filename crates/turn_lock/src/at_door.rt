@@ -2,7 +2,7 @@
 
 /// What a caller at the door knows of the counts.
 pub(crate) enum AtDoor {
-    /// It has no number.
+    /// It drew no number, and knows nothing of the counts.
     Away,
     /// It has this number.
     Waits(u64),

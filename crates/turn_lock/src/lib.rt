@@ -14,8 +14,6 @@ mod lends;
 mod lock;
 mod pass;
 mod seal;
-#[cfg(test)]
-mod tests;
 mod view;
 mod visitor;
 

@@ -11,7 +11,7 @@ use Rattle.unicode_width.specs.Kind.{kind}
 use Rattle.unicode_width.specs.Width.{alone, char_width, of_kind}
 use Rattle.unicode_width.specs.declared.kind.Kind.{Kind}
 use Rattle.unicode_width.specs.declared.kind.Kind.TheVariants as kinds
-use Rattle.vt_cells.specs.Width.{AtMostTwo, LowTakeOne, WorkedColumns, columns, is_character}
+use Rattle.vt_cells.specs.Width.{AtMostTwo, LowTakeOne, PrivateTakeOne, WorkedColumns, columns, is_character}
 
 -- the kind of a character that takes one column
 abbrev pub is_one : Kind → Bool
@@ -36,6 +36,8 @@ worked = record {
   flag = refl;
   tone = refl;
   widest = refl;
+  diamond = refl;
+  lines = (refl, refl, refl, refl);
 }
 
 -- the steps up to n pass
@@ -89,10 +91,10 @@ of_one kinds.Emoji c h = cc
 of_one kinds.Single c h = cc
 
 -- a character beyond the controls is as wide as its kind, cut to 2
-kind_gives : (c width : ℕ) → 0xA0 ≤ c → c < 0xD800 → (of_kind false c (kind c)).0 ≡ width → columns c ≡ min 2 width
+kind_gives : (c width : ℕ) → 0xA0 ≤ c → is_character c ≡ true → (of_kind false c (kind c)).0 ≡ width
+    → columns c ≡ min 2 width
 unfolding columns char_width alone
-kind_gives c width from below h =
-    let known : is_character c ≡ true = grind (arith, nat_tests) in
+kind_gives c width from known h =
     let past : nat_lt c 0x7F ≡ false = grind (arith, nat_tests) in
     let shown : nat_le 0xA0 c ≡ true = grind (arith, nat_tests) in
     let taken : Option ℕ = Some (of_kind false c (kind c)).0 in
@@ -103,8 +105,11 @@ kind_gives c width from below h =
     ∙ ap (λ w. min 2 (unwrap_or w 1)) wide
     ∙ ap (min 2) h
 
+before_surrogates : (c : ℕ) → c < 0xD800 → is_character c ≡ true
+before_surrogates c below = grind (arith, nat_tests)
+
 pub kind_takes : (c : ℕ) → 0xA0 ≤ c → c < 0xD800 → is_one (kind c) ≡ true → columns c ≡ 1
-kind_takes c from below h = kind_gives c 1 from below (of_one (kind c) c h)
+kind_takes c from below h = kind_gives c 1 from (before_surrogates c below) (of_one (kind c) c h)
 
 -- a wide kind takes two columns
 abbrev is_two : Kind → Bool
@@ -136,12 +141,14 @@ hangul_passes = refl
 pub han : (c : ℕ) → 0x3400 ≤ c → c ≤ 0x9FFF → columns c ≡ 2
 han c from to =
     let below : c < 0xA000 = omega (arith, to) in
-    kind_gives c 2 (omega (arith, from)) (omega (arith, to)) (of_two (kind c) c (passes_between is_two 0x3400 0xA000 c from below han_passes))
+    kind_gives c 2 (omega (arith, from)) (before_surrogates c (omega (arith, to)))
+    (of_two (kind c) c (passes_between is_two 0x3400 0xA000 c from below han_passes))
 
 pub hangul : (c : ℕ) → 0xAC00 ≤ c → c ≤ 0xD7A3 → columns c ≡ 2
 hangul c from to =
     let below : c < 0xD7A4 = omega (arith, to) in
-    kind_gives c 2 (omega (arith, from)) (omega (arith, to)) (of_two (kind c) c (passes_between is_two 0xAC00 0xD7A4 c from below hangul_passes))
+    kind_gives c 2 (omega (arith, from)) (before_surrogates c (omega (arith, to)))
+    (of_two (kind c) c (passes_between is_two 0xAC00 0xD7A4 c from below hangul_passes))
 
 -- from these steps of the table on, up to the first that doesn't end below a code
 latin_passes : passes_to is_one 0xAD (skip kind_stepped.steps 0xA0) ≡ true
@@ -171,6 +178,18 @@ low c below other =
           ]
     ]
 
+private_passes : passes_to is_one 0xF900 (skip kind_stepped.steps 0xE000) ≡ true
+unfolding unicode_width
+private_passes = refl
+
+after_surrogates : (c : ℕ) → 0xE000 ≤ c → c < 0xF900 → is_character c ≡ true
+after_surrogates c from below = grind (arith, nat_tests)
+
+pub private_take : PrivateTakeOne
+private_take c from below =
+    kind_gives c 1 (omega (arith, from)) (after_surrogates c from below)
+    (of_one (kind c) c (kinds_between 0xE000 0xF900 c from below private_passes))
+
 pub most : AtMostTwo
 unfolding columns
 most c = grind arith
@@ -178,4 +197,4 @@ most c = grind arith
 pub hyphen : columns 0xAD ≡ 0
 hyphen = worked.soft_hyphen
 
-pub ruleset widths = (worked, low, most, hyphen, han, hangul)
+pub ruleset widths = (worked, low, private_take, most, hyphen, han, hangul)

@@ -49,13 +49,17 @@ PlainTakeOne = (code : ℕ) → is_plain code ≡ true → columns code ≡ 1
 abbrev pub LowTakeOne : Type 0
 LowTakeOne = (code : ℕ) → code < 0x300 → code ≢ 0xAD → columns code ≡ 1
 
+-- a code for private use takes one column, as the places of a font do
+abbrev pub PrivateTakeOne : Type 0
+PrivateTakeOne = (code : ℕ) → 0xE000 ≤ code → code < 0xF900 → columns code ≡ 1
+
 -- no code takes more than two columns
 abbrev pub AtMostTwo : Type 0
 AtMostTwo = (code : ℕ) → columns code ≤ 2
 
 -- a letter and its accent; the soft hyphen, the joiner and the sign that requests an emoji; a Han character
 -- and a face; the replacement character and codes that are no character; a heart, a letter of a flag and a
--- skin tone
+-- skin tone; the diamond and the four scan lines of the VT100
 pub record WorkedColumns : Type 0 where
   pub letter : columns 0x65 ≡ 1
   pub accent : columns 0x301 ≡ 0
@@ -71,3 +75,5 @@ pub record WorkedColumns : Type 0 where
   pub flag : columns 0x1F1E6 ≡ 1
   pub tone : columns 0x1F3FB ≡ 2
   pub widest : columns 0x17D8 ≡ 2
+  pub diamond : columns 0x25C6 ≡ 1
+  pub lines : (columns 0x23BA ≡ 1) × (columns 0x23BB ≡ 1) × (columns 0x23BC ≡ 1) × (columns 0x23BD ≡ 1)

@@ -1,2 +1,2 @@
-pub mod Cutting
 pub mod Prefixes
+pub mod for_laws

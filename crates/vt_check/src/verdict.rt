@@ -1,4 +1,4 @@
-/// The verdict on a journal of a session (docs/JOURNAL.md). This project's own.
+/// The verdict on a journal of a session (docs/reference/journal.md). This project's own.
 #[derive(Clone, Copy, Debug, PartialEq, Eq)]
 pub enum Verdict {
     /// It is legal, follows the session's programs and ends as it has to.

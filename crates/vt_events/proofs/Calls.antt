@@ -27,7 +27,7 @@ pub held-if : (e : Event) → held_of e ≡ held_if (holds e) (bytes_of e)
 held-if event.Exit = refl
 held-if e = refl
 
--- all kinds; `tools/call_lists.py` writes this list and the next lemma
+-- all kinds; `dev/gen/call_lists.py` writes this list and the next lemma
 abbrev kinds : List Kind
 kinds =
     kind.Scan ∷ kind.Exit ∷ kind.OpenCon ∷ kind.CloseFd ∷ kind.Write ∷ kind.ReadIn ∷

@@ -7,8 +7,8 @@ use vt_base::{Bytes, NoMemory};
 
 /// A call of a caller. The doc comment of a variant begins with the words of the call in a journal: the name, then a
 /// word for each field. HH is a byte, B is bytes, and every other word is a number. FD is one of the caller's
-/// descriptors; it names the console that it was opened on. `tools/call_lists.py` writes each list of calls from these
-/// words.
+/// descriptors; it names the console that it was opened on. `dev/gen/call_lists.py` writes each list of calls from
+/// these words.
 #[derive(Debug, Drop)]
 pub enum Event {
     /// `scan HH`: a byte of the keyboard.

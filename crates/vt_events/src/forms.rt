@@ -36,7 +36,7 @@ pub(crate) fn form_of(kind: Kind) -> &'static CallForm
     &FORMS[kind as usize]
 }
 
-// A form for each kind, in the order of the kinds. `tools/call_lists.py` writes this list.
+// A form for each kind, in the order of the kinds. `dev/gen/call_lists.py` writes this list.
 #[rattlefmt::skip]
 static FORMS: [CallForm; KIND_COUNT] = [
     CallForm { kind: Kind::Scan, name: b"scan", numbers: 0, bytes: true },

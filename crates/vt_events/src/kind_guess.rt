@@ -19,7 +19,7 @@ pub(crate) fn guess_kind(name: &[u8]) -> Kind {
 /// The length of the table of guesses.
 const GUESS_PLACES: usize = 96;
 
-// For each index the kind whose name has it; `scan` if no name has it. `tools/call_lists.py` writes this list.
+// For each index the kind whose name has it; `scan` if no name has it. `dev/gen/call_lists.py` writes this list.
 #[rattlefmt::skip]
 static LIKELY: [Kind; GUESS_PLACES] = [
     Kind::Scan, Kind::Scan, Kind::Resize, Kind::WaitEnd, Kind::Write, Kind::Scan, Kind::Scan, Kind::GetEntry,

@@ -1,6 +1,6 @@
 use crate::HopWhy;
 
-/// Why the display changed hands in a journal (docs/EXPLAIN.md). This project's own.
+/// Why the display changed hands in a journal (docs/reference/explain.md). This project's own.
 #[derive(Drop)]
 pub enum Explained {
     /// The journal is legal: the certificate of its switches.

@@ -1,4 +1,4 @@
-/// The judgement on a list of items for a journal (docs/EXPLAIN.md). This project's own.
+/// The judgement on a list of items for a journal (docs/reference/explain.md). This project's own.
 #[derive(Clone, Copy, Debug, PartialEq, Eq)]
 pub enum Judged {
     /// The journal is legal, and the list is the certificate of its switches.

@@ -10,7 +10,7 @@ use std::alloc::Global;
 use vt_base::{Bytes, CallerNo, NoMemory, Signal};
 use vt_journal::{add, add_next, add_number};
 
-/// The certificate's text (docs/EXPLAIN.md). It can be read again.
+/// The certificate's text (docs/reference/explain.md). It can be read again.
 pub fn print_cert(alloc: Global, c: &[HopWhy]) -> Result<Bytes, NoMemory>
     ensures text { IfOk result (λ text. text.bytes ≡ cert_text c.now) }
     ensures fit { OnOk result (All IsFit c.now) }

@@ -46,7 +46,7 @@ abbrev pub fits_call : CallPattern → Event → Bool
 fits_call pattern e =
     are_equal (name_of pattern.kind) (name_of (kind_of e)) && fits pattern.numbers (numbers_of e)
 
--- an answer of this name (docs/JOURNAL.md, "The words of answers")
+-- an answer of this name (docs/reference/journal.md, "The words of answers")
 abbrev pub is_answer : AnswerKind → Reply → Bool
 is_answer answer.Done reply.Done = true
 is_answer answer.Num (reply.Num n) = true

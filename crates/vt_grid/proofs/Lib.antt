@@ -8,10 +8,9 @@ mod Laid
 mod Lays
 mod Naming
 pub mod Narrow
-mod Paired
 mod Parts
-mod Runs
 mod Scrolls
 mod Shown
 mod Split
 mod Turns
+mod for_laws

@@ -89,6 +89,10 @@ look_first has waits caller set is p process =
     let none : nat_le p 0 ≡ false = grind (arith, nat_tests, process.0) in
     is p process ∙ ap (λ b. waits p && b) (sym (or-none (p == caller) (has p) (nat_le p 0) none))
 
+-- 0 is no process
+pub no_process : (p : ℕ) → (1 ≤ p) × (p ≤ 64) → (p == 0) ≡ false
+no_process p process = grind (arith, nat_tests, process.0)
+
 -- after the last one
 pub look_all : (has waits : ℕ → Bool) (caller : ℕ) (set : ℕ → Bool) (n : ℕ) → 64 ≤ n → Looked has waits caller set n
     → (p : ℕ) → (1 ≤ p) × (p ≤ 64) → set p ≡ (waits p && (p == caller || has p))

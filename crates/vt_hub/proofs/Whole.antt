@@ -32,7 +32,7 @@ use Rattle.vt_journal.specs.declared.limits.Limits.{Limits}
 use Rattle.vt_world.specs.Laws.{ScreensAreTapes}
 use Rattle.vt_world.specs.State.{WorldState, is_waiting}
 use Rattle.vt_world.specs.Tapes.{screen_of, tape_of}
-use Rattle.vt_world.specs.Terminals.{machine_of, terminal_at}
+use Rattle.vt_world.specs.Terminals.{emu_of, terminal_at}
 
 -- if no pass is out, each that was made was joined
 pub all_home : (stands : List PassPlace) → count_by is_out stands ≡ 0 → (n : ℕ)
@@ -192,7 +192,7 @@ module _ (start : WorldState) (most : Limits) (hub : TableId) (stands : List Pas
         unstopped = (unstopped-all, all-unstopped);
         lawful = λ nothing. sound.lawful nothing s.log.entries;
         screens = λ opens c low.
-            ap (λ (w : WorldState). machine_of (terminal_at w.terminals c)) sound.replayed
+            ap (λ (w : WorldState). emu_of (terminal_at w.terminals c)) sound.replayed
             ∙ (tapes start s.log.entries opens c low
             ∙ ap (λ (w : WorldState). option_map (screen_of w.rows w.cols) (tape_of c start s.log.entries))
             (sym opens.opened));

@@ -15,7 +15,7 @@ use Rattle.vt_world.specs.History.{IsLegal, replay}
 use Rattle.vt_world.specs.Laws.{IsStart, moments}
 use Rattle.vt_world.specs.State.{WorldState, is_waiting}
 use Rattle.vt_world.specs.Tapes.{screen_of, tape_of}
-use Rattle.vt_world.specs.Terminals.{machine_of, terminal_at}
+use Rattle.vt_world.specs.Terminals.{emu_of, terminal_at}
 
 -- the knowledge of a joined pass is true: its entries are all of its number, and a stop that it met is
 -- the one of the hub, at which it had seen everything
@@ -59,5 +59,5 @@ pub record IsWhole (start : WorldState) (most : Limits) (s : StewardView) (world
   -- the screen law, if the world that was opened was a start: the screen of each console, with the
   -- rest of its text, is its tape, run from the start screen
   pub screens : IsStart start → (c : ℕ) → c < 64
-      → machine_of (terminal_at world.terminals c)
+      → emu_of (terminal_at world.terminals c)
       ≡ option_map (screen_of start.rows start.cols) (tape_of c start log.entries)

@@ -200,7 +200,7 @@ impl<J: Opening> Hub<J> {
             Look::Done { at, reply, ended } => {
                 held.publish();
                 held.leave();
-                self.wake_ups.wake(ended);
+                let _woken = self.wake_ups.wake(ended);
                 p.seq = seq + 1;
                 Some(Answer::Done { at, reply })
             }

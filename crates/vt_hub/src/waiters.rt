@@ -82,8 +82,8 @@ impl Waiters {
         }
     }
 
-    // These and this process.
-    fn with(self, process: CallerNo) -> Waiters
+    /// These and this process.
+    pub(crate) fn with(self, process: CallerNo) -> Waiters
         ensures { (p : ℕ) → has_process result.bits p ≡ (p % 64 == process % 64 || has_process self.bits p) }
     {
         Waiters {

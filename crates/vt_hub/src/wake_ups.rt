@@ -1,6 +1,7 @@
-ghost use Rattle.std.specs.Prelude.{◌≡◌, vec_len, IfOk};
+ghost use Rattle.std.specs.Prelude.{◌≡◌, ◌==◌, ◌%◌, ◌||◌, ℕ, vec_len, IfOk, if◌then◌else◌};
+ghost use Rattle.vt_hub.specs.Waiters.{IsProcess, has_process};
 
-use crate::waiters::Ended;
+use crate::waiters::{Ended, Waiters};
 use crossbeam_utils::sync::{EventCount, Key};
 use std::alloc::Global;
 use vt_base::{CALLERS, CallerNo, NoMemory};
@@ -24,17 +25,33 @@ impl WakeUps {
         self.of(caller).prepare_wait()
     }
 
-    /// Wakes the callers whose tickets were ended.
-    pub(crate) fn wake(&self, ended: Ended) {
+    /// Wakes the callers whose tickets were ended, and returns those that [`WakeUps::ring`] woke.
+    pub(crate) fn wake(&self, ended: Ended) -> Waiters
+        ensures { (p : ℕ) → IsProcess p → has_process result.bits p ≡ has_process ended.set.bits p }
+    {
         let callers = ended.set();
+        let mut woken = Waiters::none();
         if callers.is_empty() {
-            return;
+            return woken;
         }
         for caller in CallerNo::processes() {
-            if callers.has(caller) {
-                self.of(caller).notify_all();
-            }
+            woken = self.ring(callers, woken, caller);
         }
+        woken
+    }
+
+    // Wakes the caller if it is among these, and counts it to those that were woken. No clause states that its
+    // wake-up is rung.
+    fn ring(&self, callers: Waiters, woken: Waiters, caller: CallerNo) -> Waiters
+        ensures { (p : ℕ) → has_process result.bits p
+            ≡ (if has_process callers.bits caller then p % 64 == caller % 64 || has_process woken.bits p
+            else has_process woken.bits p) }
+    {
+        if !callers.has(caller) {
+            return woken;
+        }
+        self.of(caller).notify_all();
+        woken.with(caller)
     }
 
     /// Wakes every caller.

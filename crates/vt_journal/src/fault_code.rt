@@ -1,4 +1,4 @@
-//! The codes of faults in a journal text, by their numbers in docs/JOURNAL.md.
+//! The codes of faults in a journal text, by their numbers in docs/reference/journal.md.
 
 /// No first line.
 pub(crate) const NO_FIRST: u16 = 40;

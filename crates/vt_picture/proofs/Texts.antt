@@ -8,7 +8,7 @@ use Rattle.vt_cells.specs.declared.cell.Cell.{Cell}
 use Rattle.vt_grid.specs.Grid.{IsFull, GridView, row_at}
 use Rattle.vt_picture.specs.Picture.{edges, first_cell, rows_text, run_text, runs_text, word_text, words_text}
 use Rattle.vt_picture.specs.Runs.{runs, words}
-use Rattle.vt_screen.specs.declared.screen_state.ScreenState.{ScreenState}
+use Rattle.vt_canvas.specs.declared.screen_state.ScreenState.{ScreenState}
 
 -- the text so far and what is left stay the whole when a piece is added
 piece_more : (old piece rest all new whole : List ℕ) → new ≡ old ++ piece → all ≡ piece ++ rest

@@ -3,7 +3,7 @@ use Rattle.std.specs.Prelude.{ℕ, Bool, ◌/◌, ◌%◌, ◌==◌, ◌&&◌, n
 use Rattle.vt_cells.specs.AttrByte.{with_colours_swapped, vga}
 use Rattle.vt_cells.specs.Colours.{Rgb}
 use Rattle.vt_cells.specs.declared.cell.Cell.{Cell}
-use Rattle.vt_screen.specs.declared.screen_state.ScreenState.{ScreenState}
+use Rattle.vt_canvas.specs.declared.screen_state.ScreenState.{ScreenState}
 
 -- a cell's attribute byte; on a reversed screen its two colours are exchanged
 unfoldable pub attribute : ScreenState → Cell → ℕ

@@ -8,8 +8,8 @@ use Rattle.vt_picture.specs.Colours.{attribute, background, classes, foreground}
 use Rattle.vt_picture.specs.Runs.{is_blank, runs, words}
 use Rattle.vt_picture.specs.Svg.{fill_attribute, number_attribute, rectangle}
 use Rattle.vt_grid.specs.Grid.{GridView, row_at}
-use Rattle.vt_screen.specs.Screen.{Screen, start_blank}
-use Rattle.vt_screen.specs.declared.screen_state.ScreenState.{ScreenState}
+use Rattle.vt_canvas.specs.Screen.{Screen, start_blank}
+use Rattle.vt_canvas.specs.declared.screen_state.ScreenState.{ScreenState}
 
 -- a cell's width and height: those of most fonts at the size that `opening_tag` has, so that frames are joined
 abbrev pub cell_width : ℕ

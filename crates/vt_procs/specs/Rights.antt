@@ -1,5 +1,5 @@
--- Processes that are given to programs: their rights, that is their home and their privilege, and what a program leaves
--- behind. This project's own.
+-- Processes that are given to programs: their rights, that is their home and their privilege, and what a program has
+-- left. This project's own.
 use Rattle.std.specs.List.{list_any}
 use Rattle.std.specs.Prelude.{ℕ, ◌==◌, ◌&&◌, Bool, true, false, not, is_some}
 use Rattle.vt_procs.specs.Callers.{Callers, accepts, caller_at, with_caller}
@@ -16,17 +16,18 @@ with_rights rights process = record process { home = rights.home; privileged = r
 abbrev pub after_admission : ℕ → ProcStart → Callers → Callers
 after_admission p rights callers = with_caller callers p (with_rights rights (caller_at callers p))
 
+-- whether the caller has no wait, not even one that ended
 abbrev pub has_no_wait : Waiting → Bool
 has_no_wait Nothing = true
 has_no_wait (Open ticket) = false
 has_no_wait Done = false
 has_no_wait Broken = false
 
--- a live caller that has nothing open, no signal pending and no wait, not even one that ended
+-- whether the caller is alive, and has nothing open, no signal pending and no wait
 abbrev pub is_plain : Process → Bool
 is_plain process =
     process.live && not (list_any is_some process.opens) && process.pending == 0 && has_no_wait process.waiting
 
--- and doesn't accept the key signal
+-- whether p is such a caller, and doesn't accept the key signal
 abbrev pub has_nothing : Callers → ℕ → Bool
 has_nothing callers p = is_plain (caller_at callers p) && not (accepts p callers.accepter)

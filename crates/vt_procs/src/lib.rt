@@ -11,9 +11,9 @@ mod process;
 mod procs;
 mod same;
 mod ticket;
-mod tickets;
 mod waited;
 mod waiting;
+mod waits;
 
 pub use config::Config;
 pub use opens::Opens;

@@ -1,10 +1,10 @@
 -- The effect of texts on a screen where no text is pending, one after another.
 use Rattle.std.proofs.Common.{◌≡◌, ℕ, List, [], ◌∷◌, ◌++◌, length, take, Some, refl, sym, subst, ap, ◌∙◌, arith}
 use Rattle.std.proofs.lemmas.List.{take_all}
-use Rattle.vt_screen.specs.Effect.{effect}
+use Rattle.vt_canvas.specs.Effect.{effect}
 use Rattle.vt_screen.specs.Run.{ScreenAndOuts, screen_effects, with_outs, outs_of_option}
-use Rattle.vt_screen.specs.Saying.{Effect, without_out}
-use Rattle.vt_screen.specs.Screen.{Screen, mode_of}
+use Rattle.vt_canvas.specs.Saying.{Effect, without_out}
+use Rattle.vt_canvas.specs.Screen.{Screen, mode_of}
 use Rattle.vt_units.specs.WholeSequence.{Sequence, sequence_ahead}
 use Rattle.vt_units.specs.Answer.{answer, rest_after}
 use Rattle.vt_units.specs.Laws.{ComeTo, IsUnitOf, SequencesAreUnits}

@@ -6,12 +6,12 @@ use Rattle.vt_redraw.proofs.Does.{Does, acts, does_then}
 use Rattle.vt_redraw.proofs.Numbers.{sequence_does}
 use Rattle.vt_redraw.specs.Sequences.{coding_text, g0_text, g1_text, keypad_text, mode_text, place_text, private_mode_text, save_text, sequence, shift_text, stop_text}
 use Rattle.vt_redraw.specs.State.{tables_text}
-use Rattle.vt_screen.specs.Cursor.{first_row, cursor_home, last_row, cursor_to, cursor_to_in_region}
-use Rattle.vt_screen.specs.Effect.{control, control_sequence, escape, plain_escape, private_sequence}
+use Rattle.vt_canvas.specs.Cursor.{first_row, cursor_home, last_row, cursor_to, cursor_to_in_region}
+use Rattle.vt_canvas.specs.Effect.{control, control_sequence, escape, plain_escape, private_sequence}
 use Rattle.vt_screen.specs.Run.{ScreenAndOuts, screen_effects, outs_of_option}
-use Rattle.vt_screen.specs.Saying.{Effect, without_out}
-use Rattle.vt_screen.specs.Screen.{Screen, mode_of, with_state}
-use Rattle.vt_screen.specs.Settings.{clear_stops, after_shift, save, set_stop, with_coding, with_g0, with_g1, with_keypad, with_mode, with_pen, with_private_mode, with_region}
+use Rattle.vt_canvas.specs.Saying.{Effect, without_out}
+use Rattle.vt_canvas.specs.Screen.{Screen, mode_of, with_state}
+use Rattle.vt_canvas.specs.Settings.{clear_stops, after_shift, save, set_stop, with_coding, with_g0, with_g1, with_keypad, with_mode, with_pen, with_private_mode, with_region}
 use Rattle.vt_sgr.specs.PenState.{with_mapping}
 use Rattle.vt_units.specs.Answer.{rest_after}
 use Rattle.vt_units.specs.Bytes.{is_control}

@@ -8,9 +8,9 @@ use Rattle.std.proofs.lemmas.List.{length-append, take_all}
 use Rattle.std.proofs.lemmas.List.Folds.{list_all-append}
 use Rattle.vt_redraw.proofs.Does.{Does, acts}
 use Rattle.vt_redraw.specs.Sequences.{more_numbers, sequence}
-use Rattle.vt_screen.specs.Effect.{control_sequence}
-use Rattle.vt_screen.specs.Saying.{without_out}
-use Rattle.vt_screen.specs.Screen.{Screen}
+use Rattle.vt_canvas.specs.Effect.{control_sequence}
+use Rattle.vt_canvas.specs.Saying.{without_out}
+use Rattle.vt_canvas.specs.Screen.{Screen}
 use Rattle.vt_units.specs.WholeSequence.{control_ahead, ends_control, numbers_ahead, numbers_end, opened_ahead, sequence_ahead}
 use Rattle.vt_units.specs.Bytes.{is_digit}
 use Rattle.vt_units.specs.Laws.{SequencesAreUnits}

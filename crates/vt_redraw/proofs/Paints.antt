@@ -12,10 +12,10 @@ use Rattle.vt_redraw.proofs.Numbers.{AreSmall, below_holds, sequence_does}
 use Rattle.vt_redraw.specs.Cells.{byte_change, is_ground}
 use Rattle.vt_redraw.specs.Sequences.{byte_numbers, byte_text}
 use Rattle.vt_redraw.specs.State.{attributes_text, intensity_number}
-use Rattle.vt_screen.specs.Effect.{control_sequence}
-use Rattle.vt_screen.specs.Saying.{without_out}
-use Rattle.vt_screen.specs.Screen.{Screen, erased_byte, printed_byte}
-use Rattle.vt_screen.specs.Settings.{after_sgr, with_pen}
+use Rattle.vt_canvas.specs.Effect.{control_sequence}
+use Rattle.vt_canvas.specs.Saying.{without_out}
+use Rattle.vt_canvas.specs.Screen.{Screen, erased_byte, printed_byte}
+use Rattle.vt_canvas.specs.Settings.{after_sgr, with_pen}
 use Rattle.vt_sgr.specs.PenState.{PenState, with_attributes, with_bg, with_blink, with_fg, with_intensity, with_italic, with_reverse, with_underline}
 use Rattle.vt_sgr.specs.Sgr.{sgr, sgr_skipping}
 use Rattle.vt_units.specs.Laws.{SequencesAreUnits}

@@ -15,13 +15,13 @@ use Rattle.vt_redraw.proofs.Numbers.{sequence_does}
 use Rattle.vt_redraw.specs.Cells.{glyph_text}
 use Rattle.vt_redraw.specs.Drawable.{is_glyph}
 use Rattle.vt_redraw.specs.Sequences.{erase_text}
-use Rattle.vt_screen.specs.Cursor.{at_column, linefeed}
-use Rattle.vt_screen.specs.Effect.{control_sequence}
-use Rattle.vt_screen.specs.Erasing.{erase_line, with_grid}
-use Rattle.vt_screen.specs.Printing.{codes_drawn, lacks_room, with_gap, print, print_character, with_cells_at_cursor, with_character, after_wrap}
+use Rattle.vt_canvas.specs.Cursor.{at_column, linefeed}
+use Rattle.vt_canvas.specs.Effect.{control_sequence}
+use Rattle.vt_canvas.specs.Erasing.{erase_line, with_grid}
+use Rattle.vt_canvas.specs.Printing.{codes_drawn, lacks_room, with_gap, print, print_character, with_cells_at_cursor, with_character, after_wrap}
 use Rattle.vt_screen.specs.Run.{ScreenAndOuts, screen_effects}
-use Rattle.vt_screen.specs.Saying.{without_out}
-use Rattle.vt_screen.specs.Screen.{Screen, erased_byte, mode_of, printed_byte, with_state}
+use Rattle.vt_canvas.specs.Saying.{without_out}
+use Rattle.vt_canvas.specs.Screen.{Screen, erased_byte, mode_of, printed_byte, with_state}
 use Rattle.vt_sgr.specs.PenState.{with_attributes as with_attr}
 use Rattle.vt_units.proofs.Wholes.{characters_run}
 use Rattle.vt_units.specs.Bytes.{decodes}

@@ -15,9 +15,9 @@ use Rattle.vt_redraw.proofs.Prints.{IsReady, after_columns, brushed, erase_does,
 use Rattle.vt_redraw.specs.Cells.{are_spaces, byte_change, cells_text, glyph_text, is_blank_end, is_ground}
 use Rattle.vt_redraw.specs.Drawable.{are_drawable, is_glyph}
 use Rattle.vt_redraw.specs.Sequences.{erase_text}
-use Rattle.vt_screen.specs.Erasing.{with_grid}
-use Rattle.vt_screen.specs.Printing.{codes_drawn, print}
-use Rattle.vt_screen.specs.Screen.{Screen, erased_byte, mode_of, printed_byte}
+use Rattle.vt_canvas.specs.Erasing.{with_grid}
+use Rattle.vt_canvas.specs.Printing.{codes_drawn, print}
+use Rattle.vt_canvas.specs.Screen.{Screen, erased_byte, mode_of, printed_byte}
 use Rattle.vt_units.specs.Bytes.{decodes}
 use Rattle.vt_units.specs.Laws.{PrintablesAreCharacters, SequencesAreUnits}
 

@@ -16,9 +16,9 @@ use Rattle.vt_redraw.proofs.Rows.{RowDone, cells_do, same_cell}
 use Rattle.vt_redraw.specs.Cells.{are_same, cells_text, changed_rows, row_text}
 use Rattle.vt_redraw.specs.Drawable.{is_row_drawable}
 use Rattle.vt_redraw.specs.Sequences.{place_text}
-use Rattle.vt_screen.specs.Cursor.{first_row, last_row}
-use Rattle.vt_screen.specs.Erasing.{with_grid}
-use Rattle.vt_screen.specs.Screen.{Screen}
+use Rattle.vt_canvas.specs.Cursor.{first_row, last_row}
+use Rattle.vt_canvas.specs.Erasing.{with_grid}
+use Rattle.vt_canvas.specs.Screen.{Screen}
 use Rattle.vt_units.specs.Laws.{PrintablesAreCharacters, SequencesAreUnits}
 
 -- rows that are the same, cell by cell

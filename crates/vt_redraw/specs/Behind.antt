@@ -2,7 +2,7 @@
 use Rattle.std.specs.Prelude.{◌≡◌, ℕ, Bool, ◌≤◌, List, length, take}
 use Rattle.vt_redraw.specs.Redraw.{IsStored, redrawn_on}
 use Rattle.vt_screen.specs.Run.{run_from}
-use Rattle.vt_screen.specs.Screen.{Screen, with_state}
+use Rattle.vt_canvas.specs.Screen.{Screen, with_state}
 use Rattle.vt_units.specs.Rest.{fresh}
 use Rattle.vt_units.specs.Run.{make_reached}
 use Rattle.vt_units.specs.declared.mode.Mode.{Mode}

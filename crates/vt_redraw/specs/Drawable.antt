@@ -5,8 +5,8 @@ use Rattle.vt_cells.specs.Rendition.{Rendition}
 use Rattle.vt_cells.specs.Width.{columns, is_character, is_half}
 use Rattle.vt_cells.specs.declared.cell.Cell.{Cell}
 use Rattle.vt_chars.specs.Utf8.{within}
-use Rattle.vt_screen.specs.Screen.{Screen}
-use Rattle.vt_screen.specs.declared.screen_state.ScreenState.{ScreenState}
+use Rattle.vt_canvas.specs.Screen.{Screen}
+use Rattle.vt_canvas.specs.declared.screen_state.ScreenState.{ScreenState}
 
 -- the character prints itself: it is no control character and takes one column or two
 unfoldable pub is_glyph : ℕ → Bool

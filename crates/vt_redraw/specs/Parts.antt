@@ -8,8 +8,8 @@ use Rattle.vt_grid.specs.Grid.{GridView}
 use Rattle.vt_redraw.specs.Drawable.{is_glyph, is_redrawable}
 use Rattle.vt_redraw.specs.Redraw.{IsStored, changes_of, redraw_of}
 use Rattle.vt_redraw.specs.Sequences.{colour_text, sequence}
-use Rattle.vt_screen.specs.Effect.{EffectRow, controls, escapes, private_sequences, sequences}
-use Rattle.vt_screen.specs.Screen.{Screen}
+use Rattle.vt_canvas.specs.Effect.{EffectRow, controls, escapes, private_sequences, sequences}
+use Rattle.vt_canvas.specs.Screen.{Screen}
 use Rattle.vt_sgr.specs.Sgr.{is_of}
 
 -- the table has a row with this last byte

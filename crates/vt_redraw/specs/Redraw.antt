@@ -6,7 +6,7 @@ use Rattle.vt_redraw.specs.Cells.{changed_rows}
 use Rattle.vt_redraw.specs.Drawable.{is_redrawable}
 use Rattle.vt_redraw.specs.State.{clearing_text, setting_text, state_text}
 use Rattle.vt_screen.specs.Run.{with_outs, run_from}
-use Rattle.vt_screen.specs.Screen.{IsWhole, Screen, start_blank, with_state}
+use Rattle.vt_canvas.specs.Screen.{IsWhole, Screen, start_blank, with_state}
 use Rattle.vt_units.specs.Rest.{fresh}
 use Rattle.vt_units.specs.Run.{make_reached}
 use Rattle.vt_units.specs.declared.mode.Mode.{Mode}

@@ -9,9 +9,9 @@ use Rattle.vt_cells.specs.declared.intensity.Intensity.TheVariants.{Bold, Dim, N
 use Rattle.vt_grid.specs.Grid.{row_at}
 use Rattle.vt_redraw.specs.Cells.{cells_text}
 use Rattle.vt_redraw.specs.Sequences.{coding_text, colour_text, g0_text, g1_text, keypad_text, mode_text, place_text, private_mode_text, save_text, sequence, shift_text, start_palette_text, stop_text}
-use Rattle.vt_screen.specs.Screen.{Screen}
-use Rattle.vt_screen.specs.declared.saved.Saved.{Saved}
-use Rattle.vt_screen.specs.declared.screen_state.ScreenState.{ScreenState}
+use Rattle.vt_canvas.specs.Screen.{Screen}
+use Rattle.vt_canvas.specs.declared.saved.Saved.{Saved}
+use Rattle.vt_canvas.specs.declared.screen_state.ScreenState.{ScreenState}
 use Rattle.vt_sgr.specs.PenState.{PenState}
 
 -- the modes that rows are drawn in, whatever state the screen is in: UTF-8, no control character shown, no

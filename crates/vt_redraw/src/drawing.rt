@@ -3,7 +3,7 @@ ghost use Rattle.std.specs.Prelude.{◌≡◌, ◌<◌, ◌≤◌, ◌++◌, IfO
 ghost use Rattle.vt_redraw.specs.Cells.{changed_rows};
 ghost use Rattle.vt_redraw.specs.Drawable.{is_redrawable};
 ghost use Rattle.vt_redraw.specs.Redraw.{IsSameSize, Redraws, changes_of, redraw_of};
-ghost use Rattle.vt_screen.specs.Screen.{IsWhole, Screen};
+ghost use Rattle.vt_canvas.specs.Screen.{IsWhole, Screen};
 
 use crate::cells::add_row;
 use crate::filled_rows::add_rows_but;

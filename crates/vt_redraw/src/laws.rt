@@ -2,11 +2,11 @@
 ghost use Rattle.vt_redraw.specs.Behind.{TextsFollow};
 ghost use Rattle.vt_redraw.specs.DrawableRows.{RowsAreCharacters};
 ghost use Rattle.vt_redraw.specs.Parts.{RedrawsUseRows};
-ghost use Rattle.vt_redraw.specs.Reached.{StatesAreDrawable, TapeStatesAreDrawable};
+ghost use Rattle.vt_redraw.specs.Reached.{StatesAreDrawable, TapeCellsAreDrawable, TapeStatesAreDrawable};
 ghost use Rattle.vt_redraw.specs.Redraw.{ChangesRedraw, ScreensRedraw};
 
 use vt_cells::columns_are_few;
-use vt_screen::pieces_draw;
+use vt_screen::{pieces_draw, tapes_keep_characters};
 use vt_units::{controls_are_units, printables_are_characters, sequences_are_units};
 
 /// The text of a redrawable screen draws it again on every screen of its size, and the text of the rows that differ
@@ -34,6 +34,14 @@ pub fn states_are_drawable()
     ensures bytes { StatesAreDrawable }
     ensures changes { TapeStatesAreDrawable }
 {}
+
+/// The rows of every screen that bytes make from a start are drawable exactly if each cell is a right half or has a
+/// character that prints itself; also after changes, if no word of the user's table takes two columns.
+pub fn cells_are_drawable()
+    ensures { TapeCellsAreDrawable }
+{
+    tapes_keep_characters();
+}
 
 /// A row is drawable exactly if it is the cells of characters that print themselves, each one of two columns with its
 /// right half.

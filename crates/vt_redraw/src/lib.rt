@@ -17,5 +17,6 @@ mod stored;
 pub use drawable::redrawable;
 pub use drawing::{redraw, redraw_changes};
 pub use laws::{
-    redraws_use_rows, rows_are_characters, screens_redraw, states_are_drawable, texts_follow,
+    cells_are_drawable, redraws_use_rows, rows_are_characters, screens_redraw, states_are_drawable,
+    texts_follow,
 };

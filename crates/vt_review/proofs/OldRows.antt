@@ -16,12 +16,12 @@ use Rattle.vt_review.specs.Announcements.{is_text, left_by, new_rows, row_told}
 use Rattle.vt_review.specs.Lines.{Told}
 use Rattle.vt_review.specs.Screens.{AreAllRows, EventChanges, OthersAreOld, row_notice}
 use Rattle.vt_screen.specs.Run.{after}
-use Rattle.vt_screen.specs.Screen.{Screen}
+use Rattle.vt_canvas.specs.Screen.{Screen}
 use Rattle.vt_screen.specs.ChangedRows.{ChangesAtMost}
 use Rattle.vt_units.specs.Run.{Reached}
 use Rattle.vt_world.specs.State.{WorldState}
 use Rattle.vt_world.specs.Step.{step}
-use Rattle.vt_world.specs.Terminals.{TerminalState, machine_of, terminal_at}
+use Rattle.vt_world.specs.Terminals.{TerminalState, emu_of, terminal_at}
 
 -- a row of a grid that another grid has at the same place
 same_row : (s t : GridView) (y : ℕ) → IsFull s → y < s.rows → row_at t y ≡ row_at s y
@@ -52,20 +52,20 @@ any_rows m rows e = (refl, omega arith)
 
 -- the screen of a console after a write, from the one before
 screen_after : (bytes : List ℕ) (m t : Reached Screen) (before after_it : Option TerminalState)
-    → Some m ≡ machine_of before → Some t ≡ machine_of after_it → IsWritten bytes before after_it
+    → Some m ≡ emu_of before → Some t ≡ emu_of after_it → IsWritten bytes before after_it
     → (t ≡ m) ⊎ (t ≡ after m bytes)
 screen_after bytes m t before after_it was is (inl same) =
-    inl (same_Some t m (is ∙ ap machine_of same ∙ sym was))
+    inl (same_Some t m (is ∙ ap emu_of same ∙ sym was))
 screen_after bytes m t (Some b) after_it was is (inr same) =
     inr (same_Some t (after m bytes)
-    (is ∙ ap machine_of same ∙ ap (λ (x : Reached Screen). Some (after x bytes)) (sym (same_Some m b.machine was))))
+    (is ∙ ap emu_of same ∙ ap (λ (x : Reached Screen). Some (after x bytes)) (sym (same_Some m b.emu was))))
 screen_after bytes m t None after_it was is (inr same) = let e = was in cc
 
 -- the screen of a console that keeps its terminal
 kept_screen : (m t : Reached Screen) (before after_it : Option TerminalState)
-    → Some m ≡ machine_of before → Some t ≡ machine_of after_it
+    → Some m ≡ emu_of before → Some t ≡ emu_of after_it
     → ((b : TerminalState) → before ≡ Some b → after_it ≡ Some b) → t ≡ m
-kept_screen m t (Some b) after_it was is keeps = same_Some t m (is ∙ ap machine_of (keeps b refl) ∙ sym was)
+kept_screen m t (Some b) after_it was is keeps = same_Some t m (is ∙ ap emu_of (keeps b refl) ∙ sym was)
 kept_screen m t None after_it was is keeps = let e = was in cc
 
 same_screen : (first last : ℕ) (m t : Reached Screen) → IsFull m.state.grid → t ≡ m
@@ -86,8 +86,8 @@ kept_rows first last m t bytes full rows at_most (inr same) = λ y low out.
 
 by_event : (w : WorldState) (p n first last : ℕ) (e : Event) (m t : Reached Screen)
     → IsFull m.state.grid → t.state.grid.rows ≤ 255
-    → Some m ≡ machine_of (terminal_at w.terminals n)
-    → Some t ≡ machine_of (terminal_at (step w p e).world.terminals n)
+    → Some m ≡ emu_of (terminal_at w.terminals n)
+    → Some t ≡ emu_of (terminal_at (step w p e).world.terminals n)
     → EventChanges first last m t.state.grid.rows e
     → OthersAreOld first last (map row_text m.state.grid.cells) t.state.grid
 by_event w p n first last (event.Write fd b) m t full few was is (inl all) =
@@ -110,19 +110,19 @@ by_event w p n first last e m t full few was is all =
 -- the rows that an entry leaves unchanged aren't new
 pub others_are_old : (w v : WorldState) (entry : Entry) (n first last : ℕ) (m t : Reached Screen)
     → v ≡ left_by w entry → IsFull m.state.grid → t.state.grid.rows ≤ 255
-    → Some m ≡ machine_of (terminal_at w.terminals n) → Some t ≡ machine_of (terminal_at v.terminals n)
+    → Some m ≡ emu_of (terminal_at w.terminals n) → Some t ≡ emu_of (terminal_at v.terminals n)
     → EventChanges first last m t.state.grid.rows entry.event
     → OthersAreOld first last (map row_text m.state.grid.cells) t.state.grid
 unfolding left_by
 others_are_old w v entry n first last m t left full few was is changes =
     by_event w entry.caller n first last entry.event m t full few was
-    (is ∙ ap (λ (u : WorldState). machine_of (terminal_at u.terminals n)) left) changes
+    (is ∙ ap (λ (u : WorldState). emu_of (terminal_at u.terminals n)) left) changes
 
 -- the same, of the grids that the code has
 pub others_of : (w v : WorldState) (entry : Entry) (n first last : ℕ) (m t : Reached Screen) (checked old new : GridView)
     → v ≡ left_by w entry → checked ≡ m.state.grid → old ≡ m.state.grid → new ≡ t.state.grid
     → IsFull checked → new.rows ≤ 255
-    → Some m ≡ machine_of (terminal_at w.terminals n) → Some t ≡ machine_of (terminal_at v.terminals n)
+    → Some m ≡ emu_of (terminal_at w.terminals n) → Some t ≡ emu_of (terminal_at v.terminals n)
     → EventChanges first last m new.rows entry.event
     → OthersAreOld first last (map row_text old.cells) new
 others_of w v entry n first last m t checked old new left checked_is old_is new_is full few was is changes =

@@ -7,8 +7,8 @@ use Rattle.vt_base.specs.Bytes.{Text}
 use Rattle.vt_base.specs.declared.errno.Errno.{Errno}
 use Rattle.vt_events.specs.declared.event.Event.{Event}
 use Rattle.vt_events.specs.declared.event.Event.TheVariants as event
-use Rattle.vt_screen.specs.declared.out.Out.{Out}
-use Rattle.vt_screen.specs.declared.out.Out.TheVariants as outs
+use Rattle.vt_canvas.specs.declared.out.Out.{Out}
+use Rattle.vt_canvas.specs.declared.out.Out.TheVariants as outs
 use Rattle.vt_switch.specs.Acts.{Allocate, Request, SwitchAct}
 use Rattle.vt_switch.specs.Moments.{core_after, marks}
 use Rattle.vt_switch.specs.declared.mark.Mark.{Mark}

@@ -1,5 +1,5 @@
 -- The notices that ears get of a history: the switches of the display, bells, and new rows of the console that
--- has the display. This project's own: docs/REVIEW.md.
+-- has the display. This project's own: docs/reference/review.md.
 use Rattle.std.specs.Prelude.{ℕ, ◌+◌, Bool, false, nat_lt, List, [], ◌∷◌, ◌++◌, Option, Some, None, bytes_eq, decimal, filter, map, slice_get, if◌then◌else◌}
 use Rattle.std.specs.List.{flat_map, range_with_len}
 use Rattle.vt_dump.specs.Rows.{row_text}
@@ -34,7 +34,7 @@ has_rung w v n = nat_lt (bells_of (terminal_at w.terminals n)) (bells_of (termin
 -- the texts of a console's rows, from top to bottom; none if it isn't allocated
 abbrev pub rows_of : Option TerminalState → List (List ℕ)
 rows_of None = []
-rows_of (Some t) = map row_text t.machine.state.grid.cells
+rows_of (Some t) = map row_text t.emu.state.grid.cells
 
 -- the text is that of a row that was there
 abbrev pub is_text : Option (List ℕ) → List ℕ → Bool

@@ -6,7 +6,7 @@ use Rattle.vt_events.specs.declared.event.Event.TheVariants as event
 use Rattle.vt_grid.specs.Grid.{GridView, row_at}
 use Rattle.vt_review.specs.Announcements.{is_text, row_told}
 use Rattle.vt_review.specs.Lines.{Told}
-use Rattle.vt_screen.specs.Screen.{Screen}
+use Rattle.vt_canvas.specs.Screen.{Screen}
 use Rattle.vt_screen.specs.ChangedRows.{ChangesAtMost}
 use Rattle.vt_units.specs.Run.{Reached}
 

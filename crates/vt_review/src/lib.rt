@@ -4,10 +4,10 @@
 mod changes;
 mod ear;
 mod ear_table;
+mod entry_lines;
 mod lines;
 mod listener;
 mod notice;
-mod notices;
 mod reviewed;
 mod reviewer;
 mod reviewing;

@@ -7,7 +7,7 @@ ghost use Rattle.vt_review.specs.Seen.{IsLeft, OthersAreLeft};
 ghost use Rattle.vt_world.specs.Terminals.{terminal_at};
 
 use crate::changes::changed_rows;
-use crate::notices::{tell_bell, tell_hops};
+use crate::entry_lines::{tell_bell, tell_hops};
 use crate::screens::tell_rows;
 use crate::touching::touched;
 use crate::{Ear, Listener};

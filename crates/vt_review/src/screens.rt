@@ -7,8 +7,8 @@ ghost use Rattle.vt_review.specs.Announcements.{is_text, new_rows};
 ghost use Rattle.vt_review.specs.Lines.{ear_lines, words_of};
 ghost use Rattle.vt_review.specs.Screens.{OthersAreOld, row_notice, texts_of};
 
+use crate::entry_lines::tell_row;
 use crate::lines::{ROW, row_words};
-use crate::notices::tell_row;
 use crate::{Ear, Listener};
 use std::alloc::Global;
 use vt_base::{Bytes, ConsoleNo, NoMemory};

@@ -7,14 +7,14 @@ use Rattle.std.proofs.lemmas.List.{take_all}
 use Rattle.std.proofs.lemmas.List.Elements.{All-append, All-cons, All-nil}
 use Rattle.vt_grid.specs.Grid.{row_at}
 use Rattle.vt_screen.specs.Run.{ScreenAndOuts, after, run_from, screen_effects, with_outs}
-use Rattle.vt_screen.specs.Screen.{Screen}
-use Rattle.vt_screen.specs.ChangedRows.{AreSameOutside, ChangesAtMost, IsAt, Moves, ReadsPlainly, StaysAbove, goes_down, has_next_place, is_plain_byte}
-use Rattle.vt_screen.specs.declared.place.Place.{Place}
+use Rattle.vt_canvas.specs.Screen.{Screen}
+use Rattle.vt_screen.specs.ChangedRows.{AreSameOutside, ChangesAtMost, IsAt, Moves, ReadsPlainly, StaysAbove, goes_down, has_next_cursor, is_plain_byte}
+use Rattle.vt_screen.specs.declared.cursor_step.CursorState.{CursorState}
 use Rattle.vt_units.proofs.Runs.{any_cut}
 use Rattle.vt_units.specs.Run.{Reached, step}
 
 -- after so many of the bytes the cursor is here, and at most the rows from the first one to its own have changed
-pub record HasCome (cols bottom first : ℕ) (at : Place) (m : Reached Screen) (bytes : List ℕ) (i : ℕ) : Type 0 where
+pub record HasCome (cols bottom first : ℕ) (at : CursorState) (m : Reached Screen) (bytes : List ℕ) (i : ℕ) : Type 0 where
   pub now : Reached ScreenAndOuts
   pub runs : run_from m (take i bytes) ≡ now
   pub text : now.rest.text ≡ []
@@ -45,7 +45,7 @@ wider first y last k low high (inl above) = (inl above, inl (omega (arith, above
 wider first y last k low high (inr under) = (inr (omega (arith, under, high)), inr under)
 
 -- the wrap and the row of the cursor after these bytes
-module _ {cols bottom first : ℕ} {at : Place} {m : Reached Screen} {bytes : List ℕ} {i : ℕ}
+module _ {cols bottom first : ℕ} {at : CursorState} {m : Reached Screen} {bytes : List ℕ} {i : ℕ}
     (come : HasCome cols bottom first at m bytes i) where
   wrap_is : (after m (take i bytes)).state.state.wrap ≡ at.wrap
   wrap_is = ap (λ (now : Reached ScreenAndOuts). now.state.screen.state.wrap) come.runs ∙ come.here.pending
@@ -62,7 +62,7 @@ StaysAt m bytes k =
 same_number : (i k : ℕ) → i ≤ k → k < i + 1 → i ≡ k
 same_number i k late less = omega (arith, late, less)
 
-above_now : (cols bottom first : ℕ) (at : Place) (m : Reached Screen) (bytes : List ℕ) (i : ℕ)
+above_now : (cols bottom first : ℕ) (at : CursorState) (m : Reached Screen) (bytes : List ℕ) (i : ℕ)
     → (not (goes_down at.wrap (get_or bytes i 0)) || nat_lt at.y bottom) ≡ true
     → HasCome cols bottom first at m bytes i → StaysAt m bytes i
 above_now cols bottom first at m bytes i stays come =
@@ -72,9 +72,9 @@ above_now cols bottom first at m bytes i stays come =
     omega (arith, below, row_is come, come.last)
 
 -- one byte more
-pub come_further : (cols bottom first : ℕ) (at next : Place) (m : Reached Screen) (bytes : List ℕ) (i : ℕ)
+pub come_further : (cols bottom first : ℕ) (at next : CursorState) (m : Reached Screen) (bytes : List ℕ) (i : ℕ)
     → i < length bytes → Moves cols bottom (get_or bytes i 0) at next
-    → has_next_place bottom at (get_or bytes i 0) ≡ true
+    → has_next_cursor bottom at (get_or bytes i 0) ≡ true
     → HasCome cols bottom first at m bytes i → HasCome cols bottom first next m bytes (i + 1)
 come_further cols bottom first at next m bytes i within moves known come =
     let b : ℕ = get_or bytes i 0 in
@@ -106,7 +106,7 @@ come_further cols bottom first at next m bytes i within moves known come =
     }
 
 -- after all bytes
-pub all_come : (cols bottom first : ℕ) (at : Place) (m : Reached Screen) (bytes : List ℕ) (i : ℕ) → length bytes ≤ i
+pub all_come : (cols bottom first : ℕ) (at : CursorState) (m : Reached Screen) (bytes : List ℕ) (i : ℕ) → length bytes ≤ i
     → HasCome cols bottom first at m bytes i
     → ChangesAtMost first at.y m bytes × ((after m bytes).state.state.y ≡ at.y) × StaysAbove m bytes
 all_come cols bottom first at m bytes i all come =

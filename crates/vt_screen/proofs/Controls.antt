@@ -2,10 +2,10 @@
 use Rattle.std.proofs.Common.{◌≡◌, ◌==◌, ◌&&◌, not, ℕ, true, [], ◌∷◌, sym, ap, ◌∙◌}
 use Rattle.std.proofs.lemmas.Bool.{and_parts, not-true}
 use Rattle.vt_screen.proofs.Printed.{empty_is}
-use Rattle.vt_screen.specs.Effect.{control}
+use Rattle.vt_canvas.specs.Effect.{control}
 use Rattle.vt_screen.specs.Run.{ScreenAndOuts, screen_effects, with_outs, outs_of_option, run_from}
-use Rattle.vt_screen.specs.Saying.{Effect}
-use Rattle.vt_screen.specs.Screen.{Screen, mode_of}
+use Rattle.vt_canvas.specs.Saying.{Effect}
+use Rattle.vt_canvas.specs.Screen.{Screen, mode_of}
 use Rattle.vt_units.specs.Answer.{answer, rest_after}
 use Rattle.vt_units.specs.Bytes.{is_control}
 use Rattle.vt_units.specs.Laws.{ControlsAreUnits}

@@ -1,11 +1,11 @@
 -- No cut of a text matters: earlier side effects stay before those of a run.
 use Rattle.std.proofs.Common.{◌≡◌, ℕ, Bool, true, false, List, [], ◌∷◌, ◌++◌, refl, sym, ap, ◌∙◌, append_assoc, if◌then◌else◌}
 use Rattle.std.proofs.lemmas.List.{append-nil}
-use Rattle.vt_screen.specs.Effect.{control, effect}
+use Rattle.vt_canvas.specs.Effect.{control, effect}
 use Rattle.vt_screen.specs.Run.{AnyCut, ScreenAndOuts, after, screen_effects, with_outs, outs_of_option, run_from, outs_of_run, then_done}
-use Rattle.vt_screen.specs.Saying.{Effect}
-use Rattle.vt_screen.specs.Screen.{Screen, mode_of}
-use Rattle.vt_screen.specs.declared.out.Out.{Out}
+use Rattle.vt_canvas.specs.Saying.{Effect}
+use Rattle.vt_canvas.specs.Screen.{Screen, mode_of}
+use Rattle.vt_canvas.specs.declared.out.Out.{Out}
 use Rattle.vt_units.proofs.Runs.{any_cut}
 use Rattle.vt_units.specs.Answer.{answer, rest_after}
 use Rattle.vt_units.specs.Run.{Reached, effect_of, make_reached, run, step}

@@ -5,8 +5,8 @@ use Rattle.std.proofs.lemmas.List.{take_rest}
 use Rattle.vt_screen.proofs.Cuts.{make_reached-behind, run-from}
 use Rattle.vt_screen.proofs.Quiet.{quiet_one}
 use Rattle.vt_screen.specs.Run.{HasRun, ScreenAndOuts, after, outs_of_option, outs_of_run, run_from, screen_effects, with_outs}
-use Rattle.vt_screen.specs.Screen.{Screen}
-use Rattle.vt_screen.specs.declared.out.Out.{Out}
+use Rattle.vt_canvas.specs.Screen.{Screen}
+use Rattle.vt_canvas.specs.declared.out.Out.{Out}
 use Rattle.vt_units.proofs.Runs.{any_cut}
 use Rattle.vt_units.specs.Run.{Reached, make_reached}
 

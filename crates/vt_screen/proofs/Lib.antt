@@ -1,30 +1,14 @@
-mod Asking
-mod AskingTable
-mod AskingTexts
 mod Changes
 mod Controls
+mod CursorSteps
 mod Cuts
-mod Edits
+mod FeedRuns
 mod Feeds
-mod FollowWide
-mod Fours
-mod Halved
+mod Fronts
 mod Hearing
-pub mod InsideTable
-pub mod Insides
-mod Places
-mod Prefixes
 mod Printed
-mod PutBack
 mod Quiet
-mod Scrolled
 mod Sequences
 mod Shown
-mod Spread
-mod Start
-mod TapeHalves
-mod TapeInside
-mod Tapes
-mod TextEnds
-mod TextRows
 mod TextSteps
+pub mod for_laws

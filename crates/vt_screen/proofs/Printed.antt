@@ -4,12 +4,12 @@ use Rattle.std.proofs.lemmas.Bool.{and_parts, cond-true, cond-false}
 use Rattle.std.proofs.lemmas.Bool.Decides.{nat_tests}
 use Rattle.std.proofs.lemmas.List.{length-take}
 use Rattle.std.specs.List.{prefix_len}
-use Rattle.vt_screen.specs.Cursor.{at_column, linefeed}
+use Rattle.vt_canvas.specs.Cursor.{at_column, linefeed}
 use Rattle.vt_cells.specs.Width.{columns}
-use Rattle.vt_screen.specs.Printing.{lacks_room, print, print_character, print_characters, with_character, after_wrap}
+use Rattle.vt_canvas.specs.Printing.{lacks_room, print, print_character, print_characters, with_character, after_wrap}
 use Rattle.vt_screen.proofs.Quiet.{quiet_run}
 use Rattle.vt_screen.specs.Run.{HasRun, ScreenAndOuts, run_from, screen_effects, with_outs}
-use Rattle.vt_screen.specs.Screen.{Screen, mode_of}
+use Rattle.vt_canvas.specs.Screen.{Screen, mode_of}
 use Rattle.vt_units.specs.Answer.{answer, rest_after}
 use Rattle.vt_units.specs.Bytes.{decodes, is_printable}
 use Rattle.vt_units.specs.Laws.{PrintablesAreCharacters}

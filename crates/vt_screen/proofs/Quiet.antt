@@ -5,8 +5,8 @@ use Rattle.std.proofs.lemmas.Bool.{cases_lt}
 use Rattle.std.proofs.lemmas.List.{length-take-le}
 use Rattle.vt_screen.proofs.Cuts.{cuts}
 use Rattle.vt_screen.specs.Run.{IsQuietBefore, ScreenAndOuts, after, outs_of_run, run_from, screen_effects, with_outs}
-use Rattle.vt_screen.specs.Screen.{Screen, mode_of}
-use Rattle.vt_screen.specs.declared.out.Out.{Out}
+use Rattle.vt_canvas.specs.Screen.{Screen, mode_of}
+use Rattle.vt_canvas.specs.declared.out.Out.{Out}
 use Rattle.vt_units.specs.Answer.{answer, rest_after}
 use Rattle.vt_units.specs.Laws.{ComeTo}
 use Rattle.vt_units.specs.Rest.{Rest}

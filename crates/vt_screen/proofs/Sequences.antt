@@ -1,10 +1,10 @@
 -- A sequence that is read at once.
 use Rattle.std.proofs.Common.{◌≡◌, ℕ, List, [], ◌∷◌, take, Option, Some, sym, subst, ap, ◌∙◌}
-use Rattle.vt_screen.specs.Effect.{effect}
+use Rattle.vt_canvas.specs.Effect.{effect}
 use Rattle.vt_screen.proofs.Quiet.{quiet_sequence}
 use Rattle.vt_screen.specs.Run.{HasRun, IsQuietBefore, ScreenAndOuts, screen_effects, with_outs, outs_of_option, run_from}
-use Rattle.vt_screen.specs.Screen.{Screen, mode_of}
-use Rattle.vt_screen.specs.declared.out.Out.{Out}
+use Rattle.vt_canvas.specs.Screen.{Screen, mode_of}
+use Rattle.vt_canvas.specs.declared.out.Out.{Out}
 use Rattle.vt_units.specs.WholeSequence.{Sequence, taken_ahead}
 use Rattle.vt_units.specs.Answer.{answer, rest_after}
 use Rattle.vt_units.specs.Laws.{ComeTo, IsUnitOf, SequencesAreUnits}

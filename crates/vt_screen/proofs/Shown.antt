@@ -2,9 +2,9 @@
 use Rattle.std.proofs.Common.{◌≡◌, ◌<◌, true, ℕ, List, [], ◌∷◌, length, refl, sym, ap, ◌∙◌, arith}
 use Rattle.vt_cells.specs.Width.{columns}
 use Rattle.vt_screen.proofs.Printed.{print_mode}
-use Rattle.vt_screen.specs.Printing.{print_character, print_characters}
+use Rattle.vt_canvas.specs.Printing.{print_character, print_characters}
 use Rattle.vt_screen.specs.Run.{ScreenAndOuts, run_from, screen_effects, with_outs}
-use Rattle.vt_screen.specs.Screen.{Screen, mode_of}
+use Rattle.vt_canvas.specs.Screen.{Screen, mode_of}
 use Rattle.vt_units.proofs.Wholes.{all_shown, characters_run}
 use Rattle.vt_units.specs.Bytes.{decodes}
 use Rattle.vt_units.specs.Characters.{AreTextsOf}

@@ -10,9 +10,9 @@ use Rattle.vt_grid.specs.Grid.{IsFull, GridView, row_at, scrolled_up, with_cell,
 use Rattle.vt_grid.specs.Halves.{with_cells_at, IsNarrow}
 use Rattle.vt_grid.specs.Laws.{RunOfMore, RunOfNone}
 use Rattle.vt_grid.proofs.Narrow.{parted_between_same, scrolled_up_narrow}
-use Rattle.vt_screen.specs.Cursor.{at_column, at_row, linefeed, region_up}
-use Rattle.vt_screen.specs.Printing.{with_gap, print, print_character, with_cells_at_cursor}
-use Rattle.vt_screen.specs.Screen.{Screen, erased_byte, printed_byte, start_blank, start_state}
+use Rattle.vt_canvas.specs.Cursor.{at_column, at_row, linefeed, region_up}
+use Rattle.vt_canvas.specs.Printing.{with_gap, print, print_character, with_cells_at_cursor}
+use Rattle.vt_canvas.specs.Screen.{Screen, erased_byte, printed_byte, start_blank, start_state}
 use Rattle.vt_screen.specs.TextRows.{start_cell, state_at}
 use Rattle.vt_units.specs.Bytes.{is_printable}
 

@@ -3,8 +3,8 @@ use Rattle.std.specs.Prelude.{◌≡◌, ◌⊎◌, ◌+◌, ◌<◌, ◌≤◌,
 use Rattle.std.specs.List.{list_any}
 use Rattle.vt_grid.specs.Grid.{row_at}
 use Rattle.vt_screen.specs.Run.{ScreenAndOuts, after, screen_effects}
-use Rattle.vt_screen.specs.Screen.{Screen, mode_of}
-use Rattle.vt_screen.specs.declared.place.Place.{Place}
+use Rattle.vt_canvas.specs.Screen.{Screen, mode_of}
+use Rattle.vt_screen.specs.declared.cursor_step.CursorState.{CursorState}
 use Rattle.vt_units.specs.Bytes.{decodes, is_printable}
 use Rattle.vt_units.specs.Run.{Reached, step}
 
@@ -46,7 +46,7 @@ pub record StaysAbove (m : Reached Screen) (bytes : List ℕ) : Type 0 where
 
 -- the cursor is here, on a screen of so many columns whose region ends in this row. Text is UTF-8, characters
 -- wrap, and a line feed stays in its column. No public clause names this, nor the three definitions below
-pub record IsAt (cols bottom : ℕ) (at : Place) (s : Screen) : Type 0 where
+pub record IsAt (cols bottom : ℕ) (at : CursorState) (s : Screen) : Type 0 where
   pub decoding : decodes (mode_of s) ≡ true
   pub wraps : s.state.autowrap ≡ true
   pub straight : s.state.newline ≡ false
@@ -60,18 +60,18 @@ pub record IsAt (cols bottom : ℕ) (at : Place) (s : Screen) : Type 0 where
 
 -- the place after the byte is known: it is such a byte, and if it takes the cursor to the next row, it is read above
 -- the region's last row
-abbrev pub has_next_place : ℕ → Place → ℕ → Bool
-has_next_place bottom at b = is_plain_byte b && (not (goes_down at.wrap b) || nat_lt at.y bottom)
+abbrev pub has_next_cursor : ℕ → CursorState → ℕ → Bool
+has_next_cursor bottom at b = is_plain_byte b && (not (goes_down at.wrap b) || nat_lt at.y bottom)
 
 -- the place after a cell in the cursor's row
-abbrev pub after_cell : ℕ → Place → Place
+abbrev pub after_cell : ℕ → CursorState → CursorState
 after_cell cols at =
     let has_next = nat_lt (at.x + 1) cols in
     record { x = if has_next then at.x + 1 else at.x; y = at.y; wrap = not has_next }
 
 -- if no text is pending, the byte takes the cursor from one place to another one, leaves no text, and changes at
 -- most the rows between them
-abbrev pub Moves : ℕ → ℕ → ℕ → Place → Place → Type 0
+abbrev pub Moves : ℕ → ℕ → ℕ → CursorState → CursorState → Type 0
 Moves cols bottom b at next =
     (at.y ≤ next.y)
     × ((m : Reached ScreenAndOuts) → m.rest.text ≡ [] → IsAt cols bottom at m.state.screen

@@ -4,7 +4,8 @@ use Rattle.vt_cells.specs.Width.{columns, is_half}
 use Rattle.vt_cells.specs.declared.cell.Cell.{Cell}
 use Rattle.vt_grid.specs.Halves.{IsPaired}
 use Rattle.vt_screen.specs.Run.{with_outs, start}
-use Rattle.vt_screen.specs.Tape.{Change, Taped, byte, change, palette, resize, run_tape, user_map}
+use Rattle.vt_screen.specs.Tape.{Taped, byte, change, run_tape}
+use Rattle.vt_canvas.specs.Change.{Change, palette, resize, user_map}
 
 -- a byte, and a change whose words for the user's table have 16 bits
 abbrev pub IsPlainChange : Change → Type 0

@@ -1,6 +1,6 @@
 -- The side effects that a listener hears.
 use Rattle.std.specs.Prelude.{◌≡◌, List, [], ◌∷◌}
-use Rattle.vt_screen.specs.declared.out.Out.{Out}
+use Rattle.vt_canvas.specs.declared.out.Out.{Out}
 
 -- the listener hears these side effects and no others, in order: each from the state that the one before it
 -- left

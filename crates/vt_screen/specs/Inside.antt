@@ -1,8 +1,9 @@
 -- The place of the cursor, in every screen that bytes and changes make.
 use Rattle.std.specs.Prelude.{◌<◌, ◌≤◌, ℕ, IsTrue, List, [], All}
 use Rattle.vt_screen.specs.Run.{with_outs, start}
-use Rattle.vt_screen.specs.Screen.{Screen}
-use Rattle.vt_screen.specs.Tape.{Taped, byte, change, palette, resize, run_tape, user_map}
+use Rattle.vt_canvas.specs.Screen.{Screen}
+use Rattle.vt_screen.specs.Tape.{Taped, byte, change, run_tape}
+use Rattle.vt_canvas.specs.Change.{palette, resize, user_map}
 
 -- the cursor is in the screen, and in origin mode in the region
 abbrev pub CursorIsInside : Screen → Type 0

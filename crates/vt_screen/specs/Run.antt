@@ -1,10 +1,10 @@
 -- The run of bytes over a screen, and its laws. Bytes are cut into units (`vt_units`), and the units have
 -- their effects in order.
 use Rattle.std.specs.Prelude.{◌≡◌, ◌<◌, ◌≤◌, ℕ, ◌++◌, List, [], ◌∷◌, Option, Some, None, length, take}
-use Rattle.vt_screen.specs.Effect.{control, effect}
-use Rattle.vt_screen.specs.Saying.{Effect}
-use Rattle.vt_screen.specs.Screen.{Screen, mode_of, start_screen}
-use Rattle.vt_screen.specs.declared.out.Out.{Out}
+use Rattle.vt_canvas.specs.Effect.{control, effect}
+use Rattle.vt_canvas.specs.Saying.{Effect}
+use Rattle.vt_canvas.specs.Screen.{Screen, mode_of, start_screen}
+use Rattle.vt_canvas.specs.declared.out.Out.{Out}
 use Rattle.vt_units.specs.Cutting.{IsCut, IsRest}
 use Rattle.vt_units.specs.Pieces.{HasEffect, controls_of, rest_with, text_of}
 use Rattle.vt_units.specs.Reading.{reading}

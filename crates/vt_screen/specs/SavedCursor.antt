@@ -1,11 +1,11 @@
 -- The cursor that ESC 7 saves and ESC 8 puts back (console_codes(4)).
 use Rattle.std.specs.Prelude.{◌≡◌, Bool, true, ◌==◌, ◌&&◌, ◌||◌, not, IsTrue, List, [], ◌∷◌}
 use Rattle.std.specs.List.{list_all}
-use Rattle.vt_screen.specs.Effect.{effect}
+use Rattle.vt_canvas.specs.Effect.{effect}
 use Rattle.vt_screen.specs.Inside.{CursorIsInside}
-use Rattle.vt_screen.specs.Screen.{IsWhole, Screen}
-use Rattle.vt_screen.specs.Settings.{restore, save}
-use Rattle.vt_screen.specs.declared.saved.Saved.{Saved}
+use Rattle.vt_canvas.specs.Screen.{IsWhole, Screen}
+use Rattle.vt_canvas.specs.Settings.{restore, save}
+use Rattle.vt_canvas.specs.declared.saved.Saved.{Saved}
 use Rattle.vt_units.specs.declared.unit.Unit as units
 use Rattle.vt_units.specs.declared.unit.Unit.TheVariants.{Char, Byte, Control, Esc, Csi, Colour, ColourReset, Ignored}
 

@@ -4,8 +4,8 @@ use Rattle.std.specs.Prelude.{◌≡◌, ℕ, ◌+◌, ◌-◌, ◌*◌, ◌<◌
 use Rattle.vt_cells.specs.declared.cell.Cell.{Cell}
 use Rattle.vt_grid.specs.Grid.{IsFull, GridView}
 use Rattle.vt_screen.specs.Run.{after, outs_of_run, start}
-use Rattle.vt_screen.specs.Screen.{Screen, start_blank, start_state}
-use Rattle.vt_screen.specs.declared.screen_state.ScreenState.{ScreenState}
+use Rattle.vt_canvas.specs.Screen.{Screen, start_blank, start_state}
+use Rattle.vt_canvas.specs.declared.screen_state.ScreenState.{ScreenState}
 use Rattle.vt_units.specs.Bytes.{is_printable}
 
 -- the cells of a grid, row after row

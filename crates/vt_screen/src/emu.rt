@@ -1,29 +1,23 @@
 ghost use Rattle.std.specs.Prelude.{◌≡◌, ◌<◌, ◌≤◌, [], ◌∷◌, None, length};
 ghost use Rattle.vt_screen.specs.Run.{HasRun, after, outs_of_option, outs_of_run, run_from, start, with_outs};
-ghost use Rattle.vt_screen.specs.Screen.{IsWhole};
+ghost use Rattle.vt_canvas.specs.Screen.{IsWhole};
 ghost use Rattle.std.specs.Borrow.{Lends, sem};
 ghost use Rattle.vt_cells.specs.contracts.palette.Palette.{the_row as palette_row};
 ghost use Rattle.vt_screen.specs.contracts.emu.Emu.{the_row};
-ghost use Rattle.vt_screen.specs.Tape.{palette, resize, user_map, with_change};
+ghost use Rattle.vt_screen.specs.Tape.{with_change};
+ghost use Rattle.vt_canvas.specs.Change.{palette, resize, user_map};
 
 mod changes;
 mod same;
 mod sequences;
 
-use crate::canvas::Canvas;
+use crate::Outs;
 use crate::leading::line_feeds;
-use crate::side_effect::SideEffect;
-use crate::{Outs, ScreenState};
 use std::marker::Model;
-use vt_cells::{Cell, Palette, columns_are_few};
+use vt_canvas::{Canvas, ScreenState, SideEffect};
+use vt_cells::{Palette, columns_are_few};
 use vt_grid::Grid;
 use vt_units::{Codes, MOST_CODES, Pending, Then, controls_are_units, printables_are_characters};
-
-/// A blank cell: a space, white on black. This project's own.
-pub const BLANK: Cell = Cell {
-    code: 0x20,
-    attr: 0x07,
-};
 
 /// The most bytes that one call of [`Emu::feed`] takes.
 pub const FEED_BYTES: usize = 64;
@@ -37,7 +31,7 @@ pub struct Emu {
 }
 
 impl Model for Emu {
-    ghost use Rattle.vt_screen.specs.Screen.{Screen};
+    ghost use Rattle.vt_canvas.specs.Screen.{Screen};
     ghost use Rattle.vt_units.specs.Run.{Reached, make_reached};
 
     ghost Value = { Reached Screen };
@@ -188,7 +182,7 @@ impl Emu {
         ensures { HasRun self.old b.now result self.new said.new }
     {
         match b[0] {
-            0x1B => self.take_short_csi(b, said),
+            0x1B => self.take_any_sequence(b, said),
             b'\n' => {
                 said.clear();
                 self.scroll_linefeeds(b)

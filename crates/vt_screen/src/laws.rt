@@ -1,5 +1,6 @@
 //! Laws of a run, for every screen and every text.
 ghost use Rattle.vt_screen.specs.Asking.{RequestsAreFew};
+ghost use Rattle.vt_screen.specs.Characters.{TapesKeepCharacters};
 ghost use Rattle.vt_screen.specs.Halves.{HalvesFollowWide, TapesKeepHalves};
 ghost use Rattle.vt_screen.specs.Run.{AnyCut, PiecesAct, PiecesResume, TextsAreCut};
 ghost use Rattle.vt_screen.specs.Tape.{AnyTapeCut, StretchesRun};
@@ -42,6 +43,15 @@ pub fn tapes_keep_halves()
 /// each right half.
 pub fn halves_follow_wide()
     ensures { HalvesFollowWide }
+{
+    columns_are_few();
+    texts_spell_characters();
+}
+
+/// In every screen that bytes and changes make from a start, each character of two columns has its right
+/// half, with its attribute byte, if no word of the user's table takes two columns.
+pub fn tapes_keep_characters()
+    ensures { TapesKeepCharacters }
 {
     columns_are_few();
     texts_spell_characters();

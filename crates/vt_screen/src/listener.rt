@@ -1,8 +1,8 @@
-use crate::Out;
+use vt_canvas::Out;
 
 /// A listener for the side effects of a text, for [`Emu::write_with`](crate::Emu::write_with).
 pub trait Listener {
-    ghost use Rattle.vt_screen.specs.declared.out.Out.{Out};
+    ghost use Rattle.vt_canvas.specs.declared.out.Out.{Out};
 
     /// The relation of the listener before and after it hears a side effect. An implementation states here
     /// what its callers may use.

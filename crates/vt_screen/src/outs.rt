@@ -1,10 +1,9 @@
 ghost use Rattle.std.specs.Prelude.{◌≡◌, ◌<◌, ◌≤◌, ◌+◌, [], ◌∷◌, ◌++◌, length};
 ghost use Rattle.vt_screen.specs.Run.{outs_of_option};
 
-use crate::Out;
-use crate::side_effect::SideEffect;
 use arrayvec::ArrayVec;
 use std::marker::Model;
+use vt_canvas::{Out, SideEffect};
 
 /// The side effects of at most 64 bytes, in order. Each byte has at most one.
 #[derive(Drop)]
@@ -14,7 +13,7 @@ pub struct Outs {
 
 impl Model for Outs {
     ghost use Rattle.std.specs.Prelude.{List};
-    ghost use Rattle.vt_screen.specs.declared.out.Out.{Out};
+    ghost use Rattle.vt_canvas.specs.declared.out.Out.{Out};
 
     ghost Value = { List Out };
 

@@ -3,8 +3,8 @@ ghost use Rattle.std.specs.Prelude.{◌≡◌, ◌<◌, ◌≤◌, length, take}
 ghost use Rattle.vt_screen.specs.Hearing.{HearsAll};
 ghost use Rattle.vt_screen.specs.Run.{after, outs_of_option, outs_of_run};
 
-use crate::side_effect::SideEffect;
 use crate::{Emu, Listener, any_cut};
+use vt_canvas::SideEffect;
 
 impl Emu {
     /// Runs a text of any length on the screen, as [`Emu::write`] does. The listener gets the reports,

@@ -2,8 +2,8 @@
 ghost use Rattle.std.specs.Prelude.{◌≡◌, ◌≤◌, None, length, take};
 ghost use Rattle.vt_screen.specs.Run.{IsQuietBefore, after, outs_of_option, outs_of_run};
 
-use crate::side_effect::SideEffect;
 use crate::{Emu, any_cut};
+use vt_canvas::SideEffect;
 
 impl Emu {
     /// Runs a text of any length on the screen, as [`Emu::feed`] runs its pieces. The side effects are

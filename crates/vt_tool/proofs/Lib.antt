@@ -4,20 +4,14 @@ mod Cuts
 mod Displays
 mod Drawing
 mod Journals
-mod Keymaps
 mod Knows
 mod Made
-mod Meant
 mod Numbers
 mod Oks
-mod Once
-mod Outcomes
-mod Plays
 mod Sessions
-mod Setups
 mod Statuses
 pub mod Streams
 mod Typed
 mod TypeTables
-mod Upgraded
 mod Upgrades
+mod for_laws

@@ -1,5 +1,5 @@
--- The commands: their words, their inputs and their outcomes (docs/PROGRAM.md). A new command has a row in the
--- list of names and a case of Gives; if it has numbers, or reads in a way of its own, it also has a case of
+-- The commands: their words, their inputs and their outcomes (docs/reference/program.md). A new command has a row in
+-- the list of names and a case of Gives; if it has numbers, or reads in a way of its own, it also has a case of
 -- IsFit or of intake_of.
 use Rattle.std.specs.Prelude.{ℕ, List, [], ◌∷◌, ◌++◌, ◌⊎◌, codes, ⊤}
 use Rattle.vt_tool.specs.Outcome.{Outcome}

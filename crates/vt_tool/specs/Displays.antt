@@ -1,5 +1,5 @@
 -- The display law of the history of a written journal: the reason for each hop in the traces of its entries.
--- docs/SWITCHING.md has the rules.
+-- docs/reference/switching.md has the rules.
 use Rattle.std.specs.Prelude.{◌≡◌, ◌⊎◌, ⊤, ℕ, List, [], ◌∷◌, ◌++◌, length, take, Some, slice_get, true}
 use Rattle.vt_events.specs.declared.entry.Entry.{Entry}
 use Rattle.vt_switch.specs.Law.{IsAllowed, IsExplained, Quiet, Raises, Since}

@@ -1,4 +1,4 @@
--- The bytes that are read from the source: one case for each way of reading. docs/PROGRAM.md, "Order" and
+-- The bytes that are read from the source: one case for each way of reading. docs/reference/program.md, "Order" and
 -- "Standard input".
 use Rattle.std.specs.Prelude.{◌≡◌, ℕ, ◌<◌, ◌≤◌, List, [], length, Some}
 use Rattle.std.specs.Io.KnownBytes.{Consumes, IsAtEnd}

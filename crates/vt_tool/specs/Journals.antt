@@ -1,4 +1,4 @@
--- The display law of a run that printed a journal: docs/PROGRAM.md.
+-- The display law of a run that printed a journal: docs/reference/program.md.
 use Rattle.std.specs.Prelude.{◌≡◌, ⊤, ℕ, List, ◌++◌, Ok, Some}
 use Rattle.std.specs.Io.KnownBytes.{Appends}
 use Rattle.session_order.specs.Sessions.{start_of}

@@ -1,4 +1,4 @@
--- The outcome of a command: docs/PROGRAM.md, "What out holds".
+-- The outcome of a command: docs/reference/program.md, "What out holds".
 use Rattle.std.specs.Prelude.{ℕ, List, []}
 use Rattle.vt_tool.specs.declared.status.Status.{Status}
 use Rattle.vt_tool.specs.declared.status.Status.TheVariants.{Fine}

@@ -1,4 +1,4 @@
--- The end of the reading of an input: docs/PROGRAM.md, "Order".
+-- The end of the reading of an input: docs/reference/program.md, "Order".
 use Rattle.std.specs.Prelude.{Result, Ok, Err, ⊤}
 use Rattle.vt_base.specs.Bytes.{Text}
 use Rattle.vt_io.specs.Stream.{Stream}

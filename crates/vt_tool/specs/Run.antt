@@ -1,4 +1,4 @@
--- A run of the program: the relation between its words, its three streams and its status (docs/PROGRAM.md).
+-- A run of the program: the relation between its words, its three streams and its status (docs/reference/program.md).
 -- Commands has the input and the outcome of each command, Input the ways of reading, and Status the lines.
 use Rattle.std.specs.Prelude.{◌≡◌, ◌≢◌, ◌⊎◌, ℕ, List, [], None, Some}
 use Rattle.std.specs.Io.KnownBytes.{Appends}

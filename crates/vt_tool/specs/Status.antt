@@ -1,4 +1,4 @@
--- The end of a run of the program, this project's own: one case for each status (docs/PROGRAM.md).
+-- The end of a run of the program, this project's own: one case for each status (docs/reference/program.md).
 use Rattle.std.specs.Prelude.{ℕ, Bool, true, false, List, [], ◌++◌, codes, decimal}
 use Rattle.vt_tool.specs.declared.status.Status.{Status}
 use Rattle.vt_tool.specs.declared.status.Status.TheVariants.{Fine, Usage, ReadFault, WriteFault, NoMemory, Refused, TooLong, JournalFull, Illegal}

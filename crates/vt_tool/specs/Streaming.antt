@@ -1,9 +1,9 @@
--- The drawing of a source on a screen: docs/PROGRAM.md, "Order".
+-- The drawing of a source on a screen: docs/reference/program.md, "Order".
 use Rattle.std.specs.Prelude.{◌≡◌, ◌↔◌, ℕ, Bool, IsTrue, ◌<◌, ◌≤◌, List, length, take, Result, Ok, Err, Some}
 use Rattle.vt_io.specs.Faults.{Rose}
 use Rattle.vt_io.specs.Stream.{Stream}
 use Rattle.vt_screen.specs.Run.{after, start}
-use Rattle.vt_screen.specs.Screen.{Screen}
+use Rattle.vt_canvas.specs.Screen.{Screen}
 use Rattle.vt_tool.specs.Commands.Screen.{screen_limit}
 use Rattle.vt_tool.specs.Input.{ReadsAll, Takes}
 use Rattle.vt_tool.specs.Run.{Holds}

@@ -1,4 +1,4 @@
--- Words and the commands that they spell: docs/PROGRAM.md, "Words". A call knows a list of commands.
+-- Words and the commands that they spell: docs/reference/program.md, "Words". A call knows a list of commands.
 use Rattle.std.specs.Prelude.{ℕ, nat_le, ◌&&◌, List, [], ◌∷◌, Option, Some, None, bytes_eq, decimal, if◌then◌else◌}
 use Rattle.std.specs.Str.Parse.{digits_value}
 use Rattle.vt_tool.specs.declared.command.Command.{Command}

@@ -1,4 +1,4 @@
--- The end of the writing of a text: docs/PROGRAM.md, "What out holds".
+-- The end of the writing of a text: docs/reference/program.md, "What out holds".
 use Rattle.std.specs.Prelude.{◌≡◌, ◌⊎◌, ℕ, List, Result, Ok, Err, MatchResult}
 use Rattle.std.specs.Io.KnownBytes.{Appends}
 use Rattle.vt_io.specs.Faults.{Rose}

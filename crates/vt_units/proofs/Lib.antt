@@ -1,32 +1,28 @@
+mod Bases
+mod Begun
+mod Bodies
+mod Bytewise
+mod Comes
+mod Commons
+mod Empties
 mod Fields
+mod Follows
 mod Fronts
+mod Joined
+mod Lanes
+mod Numbered
+mod Openers
+mod Opens
+mod Piecewise
+mod Printables
+mod Readings
+mod Rests
+pub mod Runs
+mod Settling
 mod ShortForms
 mod ShortSequences
-mod Numbered
-mod Comes
-mod Readings
-mod Joined
-mod Settling
-mod Opens
-mod Begun
-mod Follows
-mod Steps
-mod Completes
-mod Openers
-mod Walks
-mod Bases
-mod Broken
-mod Bytewise
-mod Piecewise
-pub mod Runs
-pub mod Cutting
-mod Drops
-mod Printables
-mod Lanes
-mod Rests
 mod Sizes
-mod Commons
-mod Bodies
-mod Empties
+mod Steps
+mod Walks
 pub mod Wholes
-mod Prints
+pub mod for_laws

@@ -77,7 +77,7 @@ pub record IsCut {S : Type 0} (e : Effects S) (at : Reached S) (bytes : List ℕ
 abbrev pub IsRest : Rest → Type 0
 IsRest r = (r.text ≡ []) ⊎ IsUnfinished r.mode r.text
 
--- every text consists of pieces and one last rest, and its run is their results. U+FFFD changes no mode
+-- every text consists of pieces and one last rest, and its run is their results, if U+FFFD changes no mode
 abbrev pub TextsAreCut : Type 0
 TextsAreCut =
     (mode_of : List Event → Mode)
@@ -85,7 +85,7 @@ TextsAreCut =
     → (at : Reached (List Event)) (bytes : List ℕ) → IsRest at.rest
     → IsCut (event_effects mode_of) at bytes (run (event_effects mode_of) bytes at)
 
--- however a text is cut into pieces and one last rest, their result is its run
+-- however a text is cut into pieces and one last rest, their result is its run, if U+FFFD changes no mode
 abbrev pub CutsAreRuns : Type 0
 CutsAreRuns =
     (mode_of : List Event → Mode)

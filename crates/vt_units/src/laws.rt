@@ -64,7 +64,8 @@ pub fn texts_are_cut()
     unfinished_begins();
 }
 
-/// However a text is cut into pieces and one last rest, their result is its run. So a text has exactly one result.
+/// However a text is cut into pieces and one last rest, their result is its run. With `texts_are_cut`, a text has
+/// exactly one result.
 pub fn one_result()
     ensures { CutsAreRuns }
 {

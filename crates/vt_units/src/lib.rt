@@ -20,7 +20,7 @@ mod read;
 mod remainder;
 mod sequence;
 mod sequence_ahead;
-mod sequences;
+mod sequence_units;
 mod short_csi;
 mod short_csi_ahead;
 mod step;

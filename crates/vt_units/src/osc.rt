@@ -4,7 +4,7 @@ ghost use Rattle.vt_units.specs.ParserState.{Inside, IsOutcomeOf, Stands};
 
 use crate::bytes::{acts, is_digit, is_hex};
 use crate::parser_state::ParserState;
-use crate::sequences::colour_unit;
+use crate::sequence_units::colour_unit;
 use crate::step::Step;
 use crate::{Mode, Then, Unit};
 

@@ -7,7 +7,7 @@ ghost use Rattle.vt_units.specs.ParserState.{Each, HasBody, Inside, IsSequence, 
 use crate::bytes::{acts, is_body, is_mid, is_within, opens_string};
 use crate::parser_state::ParserState;
 use crate::pending_bytes::SEQUENCE_BYTES;
-use crate::sequences::{control_unit, escape_unit};
+use crate::sequence_units::{control_unit, escape_unit};
 use crate::step::Step;
 use crate::{Mode, Then, Unit};
 

@@ -2,7 +2,7 @@
 use Rattle.std.proofs.Common.{◌≡◌, ℕ, List, map, Option, None}
 use Rattle.std.proofs.Math.Seq.{map-set_same}
 use Rattle.std.specs.Prelude.{is_some, option_map}
-use Rattle.vt_screen.specs.Tape.{Change}
+use Rattle.vt_canvas.specs.Change.{Change}
 use Rattle.vt_world.proofs.Places.{kept}
 use Rattle.vt_world.specs.Terminals.{TerminalState, after_screen_change, altered_by, terminal_at}
 

@@ -3,8 +3,8 @@ use Rattle.std.proofs.Common.{◌≡◌, ℕ, ◌+◌, min, List, ◌++◌, sym,
 use Rattle.std.specs.Prelude.{count_by}
 use Rattle.std.proofs.lemmas.List.Sums.{sum_by-append}
 use Rattle.vt_screen.specs.Run.{AnyCut, after, outs_of_run}
-use Rattle.vt_screen.specs.Screen.{Screen}
-use Rattle.vt_screen.specs.declared.out.Out.{Out}
+use Rattle.vt_canvas.specs.Screen.{Screen}
+use Rattle.vt_canvas.specs.declared.out.Out.{Out}
 use Rattle.vt_units.specs.Run.{Reached}
 use Rattle.vt_world.specs.Terminals.{TerminalState, is_bell, bell_count_after, written_on}
 
@@ -19,18 +19,18 @@ bell_count_after_more bells a b =
 
 abbrev pub IsTerminal : Reached Screen → ℕ → TerminalState → Type 0
 IsTerminal m bells t =
-    let made : TerminalState = record { machine = m; bells = bells } in
+    let made : TerminalState = record { emu = m; bells = bells } in
     made ≡ t
 
 pub written_more : AnyCut → (t : TerminalState) (a b : List ℕ) (m : Reached Screen) (bells : ℕ) (outs : List Out)
-    → m ≡ after (written_on a t).machine b → outs ≡ outs_of_run (written_on a t).machine b
+    → m ≡ after (written_on a t).emu b → outs ≡ outs_of_run (written_on a t).emu b
     → bells ≡ bell_count_after (written_on a t).bells outs
     → IsTerminal m bells (written_on (a ++ b) t)
 written_more law t a b m bells outs ran heard counted =
-    let cut = law t.machine a b in
-    let screen : m ≡ after t.machine (a ++ b) = ran ∙ sym cut.0 in
-    let count : bells ≡ bell_count_after t.bells (outs_of_run t.machine (a ++ b)) =
+    let cut = law t.emu a b in
+    let screen : m ≡ after t.emu (a ++ b) = ran ∙ sym cut.0 in
+    let count : bells ≡ bell_count_after t.bells (outs_of_run t.emu (a ++ b)) =
     counted ∙ ap (bell_count_after (written_on a t).bells) heard
-    ∙ bell_count_after_more t.bells (outs_of_run t.machine a) (outs_of_run (after t.machine a) b)
+    ∙ bell_count_after_more t.bells (outs_of_run t.emu a) (outs_of_run (after t.emu a) b)
     ∙ ap (bell_count_after t.bells) (sym cut.1) in
-    λ i. record { machine = screen i; bells = count i }
+    λ i. record { emu = screen i; bells = count i }

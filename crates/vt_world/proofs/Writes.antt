@@ -6,8 +6,8 @@ use Rattle.std.specs.List.{flat_map}
 use Rattle.std.specs.Prelude.{Ok, option_map}
 use Rattle.vt_screen.specs.Asking.{RequestsAreFew, asks, requests}
 use Rattle.vt_screen.specs.Run.{AnyCut}
-use Rattle.vt_screen.specs.declared.out.Out.{Out}
-use Rattle.vt_screen.specs.declared.out.Out.TheVariants as outs
+use Rattle.vt_canvas.specs.declared.out.Out.{Out}
+use Rattle.vt_canvas.specs.declared.out.Out.TheVariants as outs
 use Rattle.vt_world.specs.Rows.{out_deeds, write_deeds}
 use Rattle.vt_world.specs.Deeds.{Asks, Deed, Lights, Own, Puts, Writes, apply_deeds, apply_deed, after_request}
 use Rattle.vt_switch.specs.Acts.{Request}
@@ -127,7 +127,7 @@ after_write-append law c a b ts =
 both_said : AnyCut → (a b : List ℕ) (o : Option TerminalState)
     → said_of o a ++ said_of (option_map (written_on a) o) b ≡ said_of o (a ++ b)
 both_said law a b None = refl
-both_said law a b (Some t) = sym (law t.machine a b).1
+both_said law a b (Some t) = sym (law t.emu a b).1
 
 -- and have the same side effects as the whole
 outs_of_run-append : AnyCut → (c : ℕ) (a b : List ℕ) (ts : List (Option TerminalState))
@@ -175,7 +175,7 @@ ran-asks law w c a b =
 pub asks_few : RequestsAreFew → (o : Option TerminalState) (bytes : List ℕ)
     → 4 * requests (said_of o bytes) ≤ length bytes + 3
 asks_few law None bytes = omega arith
-asks_few law (Some t) bytes = law t.machine bytes
+asks_few law (Some t) bytes = law t.emu bytes
 
 -- a write that isn't refused
 pub write_has : (w : WorldState) (p fd : ℕ) (b : Text) (c : ℕ) (text : List ℕ) (w' : WorldState)

@@ -7,7 +7,7 @@ use Rattle.vt_base.specs.Keyboards.{keyboard_of}
 use Rattle.vt_procs.specs.Callers.{after_open, after_close}
 use Rattle.vt_procs.specs.Tickets.{with_accepter, after_wait_report, after_input_on, after_taking_signals, waits}
 use Rattle.vt_procs.specs.declared.ticket.Ticket.{Ticket}
-use Rattle.vt_screen.specs.Tape.{Change}
+use Rattle.vt_canvas.specs.Change.{Change}
 use Rattle.vt_switch.specs.Acts.{SwitchAct, Request}
 use Rattle.vt_switch.specs.Moments.{core_after, marks, raise}
 use Rattle.vt_world.specs.Heard.{apply_marks}

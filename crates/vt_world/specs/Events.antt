@@ -16,7 +16,7 @@ use Rattle.vt_events.specs.declared.reply.Reply.TheVariants as reply
 use Rattle.vt_procs.specs.Callers.{free_fd, is_live}
 use Rattle.vt_procs.specs.Tickets.{is_open}
 use Rattle.vt_procs.specs.declared.ticket.Ticket.TheVariants.{Active, AnySignal, Input}
-use Rattle.vt_screen.specs.Tape.{palette, resize, user_map}
+use Rattle.vt_canvas.specs.Change.{palette, resize, user_map}
 use Rattle.vt_switch.specs.Acts.{End, Lock, Release, Request, SetKd, SetMode}
 use Rattle.vt_switch.specs.Calls.{handling_of, release_result, words_of}
 use Rattle.vt_switch.specs.Display.{is_allocated, console}

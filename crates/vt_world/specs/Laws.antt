@@ -24,7 +24,7 @@ use Rattle.vt_world.specs.Start.{start_world}
 use Rattle.vt_world.specs.State.{WorldState, HasTerminals, core}
 use Rattle.vt_world.specs.Step.{step}
 use Rattle.vt_world.specs.Tapes.{screen_of, tape_of}
-use Rattle.vt_world.specs.Terminals.{machine_of, terminal_at}
+use Rattle.vt_world.specs.Terminals.{emu_of, terminal_at}
 use Rattle.vt_world.specs.Refusals.{target}
 use Rattle.vt_world.specs.Wanted.{wanted_in}
 
@@ -180,5 +180,5 @@ TerminalsAreAllocated =
 abbrev pub ScreensAreTapes : Type 0
 ScreensAreTapes =
     (w : WorldState) (entries : List Entry) (start : IsStart w) (c : ℕ) → c < 64
-    → machine_of (terminal_at (replay w entries).terminals c)
+    → emu_of (terminal_at (replay w entries).terminals c)
     ≡ option_map (screen_of start.rows start.cols) (tape_of c w entries)

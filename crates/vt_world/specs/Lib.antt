@@ -5,6 +5,7 @@ pub mod Heard
 pub mod History
 pub mod Inputs
 pub mod Laws
+pub mod Lent
 pub mod RefusalLaws
 pub mod Refusals
 pub mod Rights

@@ -25,8 +25,8 @@ RightsAreOwn =
     → step (admitted p rights w) q e
     ≡ record { world = admitted p rights (step w q e).world; reply = (step w q e).reply }
 
--- p is alive, has nothing open, no signal pending and no wait, accepts no key signal, and handles the switches of no
--- console: another program can have it, and finds it as at its start
+-- whether p is alive, has nothing open, no signal pending and no wait, accepts no key signal, and handles the switches
+-- of no console, so that another program can have it
 abbrev pub is_unused : WorldState → ℕ → Bool
 is_unused w p =
     has_nothing w.callers p && not (list_any (λ c. owns w.display p c) (range_with_len 1 consoles))
@@ -49,7 +49,7 @@ AdmissionsComeFirst =
 -- a start with other rights of a process is the start with another list of processes
 abbrev pub AdmissionsAreStarts : Type 0
 AdmissionsAreStarts =
-    (rows cols all front keyboards : ℕ) (processes : List ProcStart) (tables : Tables) (p : ℕ)
+    (rows cols set front keyboards : ℕ) (processes : List ProcStart) (tables : Tables) (p : ℕ)
     (rights : ProcStart) → 1 ≤ p → p ≤ length processes → length processes ≤ 64
-    → start_world rows cols all front keyboards (slice_set processes (p - 1) rights) tables
-    ≡ admitted p rights (start_world rows cols all front keyboards processes tables)
+    → start_world rows cols set front keyboards (slice_set processes (p - 1) rights) tables
+    ≡ admitted p rights (start_world rows cols set front keyboards processes tables)

@@ -13,9 +13,9 @@ use Rattle.vt_procs.specs.Callers.{is_opened}
 use Rattle.vt_procs.specs.declared.ticket.Ticket.{Ticket}
 use Rattle.vt_procs.specs.declared.waiting.Waiting.{Waiting}
 use Rattle.vt_procs.specs.declared.waiting.Waiting.TheVariants as waiting
-use Rattle.vt_screen.specs.Screen.{Screen}
-use Rattle.vt_screen.specs.declared.out.Out.{Out}
-use Rattle.vt_screen.specs.declared.out.Out.TheVariants as outs
+use Rattle.vt_canvas.specs.Screen.{Screen}
+use Rattle.vt_canvas.specs.declared.out.Out.{Out}
+use Rattle.vt_canvas.specs.declared.out.Out.TheVariants as outs
 use Rattle.vt_switch.specs.Acts.{Allocate, Free}
 use Rattle.vt_switch.specs.Display.{Display, is_allocated}
 use Rattle.vt_world.specs.Deeds.{Deed, Asks, By, Clears, Lights, Own, Puts, Starts, Takes, Waits, Writes}
@@ -125,7 +125,7 @@ act_reply a = reply.Act a.kind a.value
 -- bytes of a terminal's screen, none if there is no terminal
 abbrev pub screen_bytes : (Screen → List ℕ) → Option TerminalState → List ℕ
 screen_bytes bytes None = []
-screen_bytes bytes (Some t) = bytes t.machine.state
+screen_bytes bytes (Some t) = bytes t.emu.state
 
 -- a dump of a kind: 0 the characters, 1 with size, cursor and attributes, 2 the code points
 abbrev pub dump_of : ℕ → Screen → List ℕ

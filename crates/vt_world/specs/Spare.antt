@@ -11,7 +11,7 @@ use Rattle.vt_grid.specs.Grid.{GridView}
 pub record SpareView : Type 0 where
   pub grid : Option GridView
   pub reply : Text
-  pub unused : Text
+  pub for_copy : Text
 
 -- no bytes, and room for n
 abbrev pub empty_with : ℕ → Text
@@ -19,7 +19,7 @@ empty_with n = record { bytes = []; room = n }
 
 -- no grid, and no room
 abbrev pub no_spare : SpareView
-no_spare = record { grid = None; reply = empty_with 0; unused = empty_with 0 }
+no_spare = record { grid = None; reply = empty_with 0; for_copy = empty_with 0 }
 
 -- the number of a console
 abbrev pub is_console : ℕ → Bool
@@ -73,4 +73,4 @@ pub record IsTaken (needed : Option Extent) (kept grid left : Option GridView) :
 pub record Fits (rows cols : ℕ) (e : Event) (spare : SpareView) : Type 0 where
   pub grid : HasGrid (needed_grid (extent rows cols) e) spare.grid
   pub reply : greatest_reply e ≤ spare.reply.room
-  pub unused : greatest_reply e ≤ spare.unused.room
+  pub for_copy : greatest_reply e ≤ spare.for_copy.room

@@ -9,8 +9,9 @@ use Rattle.vt_events.specs.declared.event.Event.TheVariants as event
 use Rattle.vt_events.specs.declared.reply.Reply.{Reply}
 use Rattle.vt_events.specs.declared.reply.Reply.TheVariants as reply
 use Rattle.vt_screen.specs.Run.{ScreenAndOuts, with_outs, start}
-use Rattle.vt_screen.specs.Screen.{Screen}
-use Rattle.vt_screen.specs.Tape.{Taped, byte, change, palette, resize, run_tape, user_map}
+use Rattle.vt_canvas.specs.Screen.{Screen}
+use Rattle.vt_screen.specs.Tape.{Taped, byte, change, run_tape}
+use Rattle.vt_canvas.specs.Change.{palette, resize, user_map}
 use Rattle.vt_switch.specs.Display.{is_allocated}
 use Rattle.vt_units.specs.Run.{Reached, make_reached}
 use Rattle.vt_world.specs.State.{WorldState}

@@ -2,20 +2,21 @@
 use Rattle.std.specs.Prelude.{ℕ, Bool, true, false, ◌+◌, min, count_by, List, [], Option, Some, None, option_map, slice_index_or, slice_set}
 use Rattle.key_machine.specs.declared.key_modes.KeyModes.{KeyModes}
 use Rattle.vt_screen.specs.Run.{after, outs_of_run, start}
-use Rattle.vt_screen.specs.Tape.{Change, with_change}
-use Rattle.vt_screen.specs.Screen.{Screen}
-use Rattle.vt_screen.specs.declared.out.Out.{Out}
-use Rattle.vt_screen.specs.declared.out.Out.TheVariants as outs
+use Rattle.vt_screen.specs.Tape.{with_change}
+use Rattle.vt_canvas.specs.Change.{Change}
+use Rattle.vt_canvas.specs.Screen.{Screen}
+use Rattle.vt_canvas.specs.declared.out.Out.{Out}
+use Rattle.vt_canvas.specs.declared.out.Out.TheVariants as outs
 use Rattle.vt_units.specs.Run.{Reached}
 
 -- a console's screen with the rest of its text, and its count of BELs
 pub record TerminalState : Type 0 where
-  pub machine : Reached Screen
+  pub emu : Reached Screen
   pub bells : ℕ
 
 -- a new console: the start screen, and no BEL
 abbrev pub new_terminal : ℕ → ℕ → TerminalState
-new_terminal rows cols = record { machine = start rows cols; bells = 0 }
+new_terminal rows cols = record { emu = start rows cols; bells = 0 }
 
 abbrev pub is_bell : Out → Bool
 is_bell outs.Bell = true
@@ -29,16 +30,16 @@ bell_count_after bells said = min 4294967295 (bells + count_by is_bell said)
 -- bytes are run on the screen, and their BELs are counted
 abbrev pub written_on : List ℕ → TerminalState → TerminalState
 written_on bytes t = record {
-  machine = after t.machine bytes;
-  bells = bell_count_after t.bells (outs_of_run t.machine bytes);
+  emu = after t.emu bytes;
+  bells = bell_count_after t.bells (outs_of_run t.emu bytes);
 }
 
 abbrev pub terminal_at : List (Option TerminalState) → ℕ → Option TerminalState
 terminal_at terminals n = slice_index_or terminals n None
 
 -- the screen of a console with the rest of its text, and its count of BELs: 0 if it isn't allocated
-abbrev pub machine_of : Option TerminalState → Option (Reached Screen)
-machine_of terminal = option_map (λ t. t.machine) terminal
+abbrev pub emu_of : Option TerminalState → Option (Reached Screen)
+emu_of terminal = option_map (λ t. t.emu) terminal
 
 abbrev pub bells_of : Option TerminalState → ℕ
 bells_of None = 0
@@ -56,16 +57,16 @@ with_start n rows cols terminals =
 -- the side effects of these bytes, written to a console
 abbrev pub said_of : Option TerminalState → List ℕ → List Out
 said_of None bytes = []
-said_of (Some t) bytes = outs_of_run t.machine bytes
+said_of (Some t) bytes = outs_of_run t.emu bytes
 
 -- the modes of a screen that keys depend on; those of a start screen if there is none
 abbrev pub key_modes_of : Option TerminalState → KeyModes
 key_modes_of None = record { cursor = false; keypad = false; repeat = true; newline = false }
 key_modes_of (Some t) = record {
-  cursor = t.machine.state.state.cursor;
-  keypad = t.machine.state.state.keypad;
-  repeat = t.machine.state.state.repeat;
-  newline = t.machine.state.state.newline;
+  cursor = t.emu.state.state.cursor;
+  keypad = t.emu.state.state.keypad;
+  repeat = t.emu.state.state.repeat;
+  newline = t.emu.state.state.newline;
 }
 
 -- these bytes are written to console n, if it has a terminal
@@ -75,7 +76,7 @@ after_write n bytes terminals =
 
 -- a call has changed the screen
 abbrev pub altered_by : Change → TerminalState → TerminalState
-altered_by m t = record t { machine = with_change m t.machine }
+altered_by m t = record t { emu = with_change m t.emu }
 
 -- the screen of console n is changed by a call, if it has a terminal
 abbrev pub after_screen_change : ℕ → Change → List (Option TerminalState) → List (Option TerminalState)

@@ -1,6 +1,7 @@
 ghost use Rattle.std.specs.Prelude.{◌≡◌, ◌≤◌, ◌↔◌, IfOk, OnErr, IsTrue, Some, None, is_some, length, option_map, if◌then◌else◌};
 ghost use Rattle.vt_events.specs.Charge.{greatest_reply, text_of_reply};
 ghost use Rattle.vt_events.specs.Plain.{plain_reply};
+ghost use Rattle.vt_world.specs.Lent.{buffer_after};
 ghost use Rattle.vt_world.specs.Spare.{Fits, HasGrid, IsFit, IsTaken, empty_with, extent, extent_of, is_extent, needed_grid, no_spare};
 
 use std::alloc::Global;
@@ -17,7 +18,7 @@ use vt_screen::BLANK;
 pub struct Spare {
     pub(crate) grid: Option<Grid>,
     pub(crate) reply: Bytes,
-    pub(crate) unused: Bytes,
+    pub(crate) for_copy: Bytes,
     // It makes the empty buffer that takes the place of one that is used, and takes no memory.
     alloc: Global,
 }
@@ -27,7 +28,7 @@ impl Model for Spare {
 
     ghost Value = { SpareView };
 
-    ghost view = { λ s. record { grid = s.grid; reply = s.reply; unused = s.unused } };
+    ghost view = { λ s. record { grid = s.grid; reply = s.reply; for_copy = s.for_copy } };
 }
 
 impl Spare {
@@ -38,7 +39,7 @@ impl Spare {
         Spare {
             grid: None,
             reply: Bytes::new(alloc),
-            unused: Bytes::new(alloc),
+            for_copy: Bytes::new(alloc),
             alloc,
         }
     }
@@ -55,12 +56,15 @@ impl Spare {
     /// A copy of the answer. If the answer has bytes, they go into the second buffer, which leaves the
     /// spare. This call takes no memory.
     pub fn copy(&mut self, reply: &Reply) -> Reply
-        requires { length (text_of_reply reply.now) ≤ self.old.unused.room }
-        ensures { plain_reply result ≡ plain_reply reply.now }
+        requires { length (text_of_reply reply.now) ≤ self.old.for_copy.room }
+        ensures answer { plain_reply result ≡ plain_reply reply.now }
+        ensures grid { self.new.grid ≡ self.old.grid }
+        ensures reply { self.new.reply ≡ self.old.reply }
+        ensures for_copy { self.new.for_copy ≡ buffer_after reply.now self.old.for_copy }
     {
         let empty = Bytes::new(self.alloc);
         let room = match reply {
-            Reply::Text(_) => mem::replace(&mut self.unused, empty),
+            Reply::Text(_) => mem::replace(&mut self.for_copy, empty),
             _ => empty,
         };
         reply.copy_into(room)
@@ -69,8 +73,9 @@ impl Spare {
     // Takes the buffer for the answer.
     pub(crate) fn take_reply(&mut self) -> Bytes
         ensures reply { result ≡ self.old.reply }
+        ensures taken { self.new.reply ≡ empty_with 0 }
         ensures grid { self.new.grid ≡ self.old.grid }
-        ensures unused { self.new.unused ≡ self.old.unused }
+        ensures for_copy { self.new.for_copy ≡ self.old.for_copy }
     {
         mem::replace(&mut self.reply, Bytes::new(self.alloc))
     }
@@ -82,7 +87,7 @@ pub fn spare_for(alloc: Global, e: &Event, size: Size) -> Result<Spare, NoMemory
     ensures grid { IfOk result (λ spare. is_some spare.grid
         ≡ is_some (needed_grid (extent size.rows size.cols) e.now)) }
     ensures buffers { IfOk result (λ spare. (spare.reply ≡ empty_with (greatest_reply e.now))
-        × (spare.unused ≡ empty_with (greatest_reply e.now))) }
+        × (spare.for_copy ≡ empty_with (greatest_reply e.now))) }
 {
     spare_from(alloc, e, size, &mut None)
 }
@@ -98,19 +103,19 @@ pub fn spare_from(
     ensures grid { IfOk result (λ spare. is_some spare.grid
         ≡ is_some (needed_grid (extent size.rows size.cols) e.now)) }
     ensures buffers { IfOk result (λ spare. (spare.reply ≡ empty_with (greatest_reply e.now))
-        × (spare.unused ≡ empty_with (greatest_reply e.now))) }
+        × (spare.for_copy ≡ empty_with (greatest_reply e.now))) }
     ensures kept { IfOk result (λ spare. IsTaken (needed_grid (extent size.rows size.cols) e.now)
         kept.old spare.grid kept.new) }
     ensures err { OnErr result (kept.new ≡ kept.old) }
 {
     let bytes = reply_bytes(e);
     let reply = Bytes::with_room(alloc, bytes)?;
-    let unused = Bytes::with_room(alloc, bytes)?;
+    let for_copy = Bytes::with_room(alloc, bytes)?;
     let grid = grid_from(alloc, needed_grid(e, size), kept)?;
     Ok(Spare {
         grid,
         reply,
-        unused,
+        for_copy,
         alloc,
     })
 }

@@ -1,7 +1,8 @@
 ghost use Rattle.std.specs.Prelude.{◌≡◌, ◌≤◌, [], true, false, IfOk, length};
 ghost use Rattle.vt_events.specs.Charge.{greatest_reply, text_of_reply};
 ghost use Rattle.vt_procs.specs.Callers.{is_live};
-ghost use Rattle.vt_world.specs.Spare.{Fits, HasGrid, extent, needed_grid};
+ghost use Rattle.vt_world.specs.Lent.{answer_of, grid_after};
+ghost use Rattle.vt_world.specs.Spare.{Fits, HasGrid, empty_with, extent, needed_grid};
 ghost use Rattle.vt_world.specs.Step.{HasOutcome, HasRowResult, row_result_after, outcome_of_result, own_row_result, plain_answer, step, text_of_answer};
 ghost use Rattle.vt_world.specs.Refusals.{common_refusals, ends_wait, error_of, first_refusal, may_make};
 
@@ -19,20 +20,22 @@ impl World {
         requires fits { Fits self.old.rows self.old.cols event.now spare }
         ensures step { HasOutcome (step self.old caller event.now) self.new result.0 }
         ensures bytes { length (text_of_reply result.0) ≤ greatest_reply event.now }
-        ensures unused { result.1 ≡ spare.unused }
+        ensures for_copy { result.1 ≡ spare.for_copy }
     {
         let mut spare = spare;
         let answer = self.step_with(caller, event, &mut spare);
-        (answer, spare.unused)
+        (answer, spare.for_copy)
     }
 
     /// The same step with memory that is lent. The grid stays if the event doesn't use it; if a screen
-    /// is resized onto it, the screen's old grid takes its place. The second buffer stays.
+    /// is resized onto it, the screen's old grid takes its place. The first buffer is used up, the second stays.
     pub fn step_with(&mut self, caller: CallerNo, event: &Event, spare: &mut Spare) -> Reply
         requires fits { Fits self.old.rows self.old.cols event.now spare.old }
         ensures step { HasOutcome (step self.old caller event.now) self.new result }
         ensures bytes { length (text_of_reply result) ≤ greatest_reply event.now }
-        ensures unused { spare.new.unused ≡ spare.old.unused }
+        ensures grid { spare.new.grid ≡ grid_after self.old caller event.now result spare.old.grid }
+        ensures reply { spare.new.reply ≡ empty_with 0 }
+        ensures for_copy { spare.new.for_copy ≡ spare.old.for_copy }
     {
         let reply = spare.take_reply();
         self.step_on(caller, event, &mut spare.grid, reply)
@@ -51,6 +54,7 @@ impl World {
         requires reply { greatest_reply event.now ≤ reply.room }
         ensures step { HasOutcome (step self.old caller event.now) self.new result }
         ensures bytes { length (text_of_reply result) ≤ greatest_reply event.now }
+        ensures grid { grid.new ≡ grid_after self.old caller event.now result grid.old }
     {
         self.trace.clear();
         match self.may_take(caller, event) {
@@ -66,6 +70,7 @@ impl World {
     fn finish(&mut self, p: CallerNo, answer: Result<Reply, Errno>) -> Reply
         ensures step { HasOutcome (outcome_of_result self.old (plain_answer answer)) self.new result }
         ensures bytes { text_of_reply result ≡ text_of_answer answer }
+        ensures answer { result ≡ answer_of answer }
     {
         match answer {
             Ok(reply) => {
@@ -107,6 +112,7 @@ impl World {
         requires reply { greatest_reply event.now ≤ reply.room }
         ensures effect { HasRowResult (own_row_result self.old p event.now) self.new result }
         ensures bytes { length (text_of_answer result) ≤ greatest_reply event.now }
+        ensures grid { grid.new ≡ grid_after self.old p event.now (answer_of result) grid.old }
     {
         match event {
             Event::Scan(b) => self.scan(p, *b),

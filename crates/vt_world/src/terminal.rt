@@ -1,6 +1,6 @@
 ghost use Rattle.std.specs.Prelude.{◌≡◌, ◌≤◌, ◌<◌, length, take};
 ghost use Rattle.vt_screen.specs.Run.{outs_of_option, outs_of_run};
-ghost use Rattle.vt_screen.specs.Tape.{palette, resize, user_map};
+ghost use Rattle.vt_canvas.specs.Change.{palette, resize, user_map};
 ghost use Rattle.vt_world.specs.Terminals.{altered_by, new_terminal, written_on};
 
 use std::marker::Model;
@@ -21,7 +21,7 @@ impl Model for Terminal {
 
     ghost Value = { TerminalState };
 
-    ghost view = { λ t. record { machine = t.emu; bells = t.bells } };
+    ghost view = { λ t. record { emu = t.emu; bells = t.bells } };
 
     ghost invariant = { λ t. t.bells ≤ 4294967295 };
 }
@@ -39,7 +39,7 @@ impl Terminal {
 
     /// The screen.
     pub(crate) fn emu(&self) -> &Emu
-        ensures { result.now ≡ self.now.machine }
+        ensures { result.now ≡ self.now.emu }
     {
         &self.emu
     }
@@ -53,8 +53,8 @@ impl Terminal {
 
     /// Becomes the other, whose screen has the size of this one's.
     pub(crate) fn copy_from(&mut self, other: &Terminal)
-        requires rows { self.old.machine.state.grid.rows ≡ other.now.machine.state.grid.rows }
-        requires columns { self.old.machine.state.grid.cols ≡ other.now.machine.state.grid.cols }
+        requires rows { self.old.emu.state.grid.rows ≡ other.now.emu.state.grid.rows }
+        requires columns { self.old.emu.state.grid.cols ≡ other.now.emu.state.grid.cols }
         ensures { self.new ≡ other.now }
     {
         self.emu.copy_from(&other.emu);
@@ -67,7 +67,7 @@ impl Terminal {
         ensures within { result ≤ length b.now }
         ensures moves { 0 < length b.now → 0 < result }
         ensures terminal { self.new ≡ written_on (take result b.now) self.old }
-        ensures effect { outs_of_option effect.new ≡ outs_of_run self.old.machine (take result b.now) }
+        ensures effect { outs_of_option effect.new ≡ outs_of_run self.old.emu (take result b.now) }
     {
         let count = self.emu.write_until(b, effect);
         if let Some(Out::Bell) = effect.get() {
@@ -78,7 +78,8 @@ impl Terminal {
 
     /// Resizes the screen onto this grid. Returns the old grid.
     pub(crate) fn resize(&mut self, grid: Grid) -> Grid
-        ensures { self.new ≡ altered_by (resize grid.rows grid.cols) self.old }
+        ensures terminal { self.new ≡ altered_by (resize grid.rows grid.cols) self.old }
+        ensures old { result ≡ self.old.emu.state.grid }
     {
         self.emu.resize(grid)
     }

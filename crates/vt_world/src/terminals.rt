@@ -1,7 +1,8 @@
 ghost use Rattle.std.specs.Prelude.{◌≡◌, ◌≤◌, ◌<◌, Some, None, IfOk, length, take, is_some, option_copied, if◌then◌else◌};
 ghost use Rattle.vt_base.specs.ConsoleSet.{at_each};
 ghost use Rattle.vt_screen.specs.Run.{outs_of_option};
-ghost use Rattle.vt_screen.specs.Tape.{palette, resize, user_map};
+ghost use Rattle.vt_canvas.specs.Change.{palette, resize, user_map};
+ghost use Rattle.vt_world.specs.Lent.{grid_after_resize};
 ghost use Rattle.vt_world.specs.Terminals.{after_screen_change, new_terminal, said_of, terminal_at, with_start, without_terminal, after_write};
 
 mod same;
@@ -91,7 +92,8 @@ impl Terminals {
     /// Resizes the console's screen, if it has one, onto this grid. Returns the grid that is no
     /// longer needed.
     pub(crate) fn resize(&mut self, c: ConsoleNo, grid: Grid) -> Grid
-        ensures { self.new ≡ after_screen_change c (resize grid.rows grid.cols) self.old }
+        ensures terminals { self.new ≡ after_screen_change c (resize grid.rows grid.cols) self.old }
+        ensures old { Some result ≡ grid_after_resize (terminal_at self.old c) (Some grid) }
     {
         match &mut self.places[usize::from(c.get())] {
             Some(terminal) => terminal.resize(grid),

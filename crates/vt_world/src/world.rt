@@ -10,7 +10,7 @@ ghost use Rattle.vt_world.specs.Inputs.{input_at};
 ghost use Rattle.vt_world.specs.Rights.{admitted, is_unused};
 ghost use Rattle.vt_world.specs.Start.{start_world};
 ghost use Rattle.vt_world.specs.State.{core, is_waiting};
-ghost use Rattle.vt_world.specs.Terminals.{bells_of, machine_of, terminal_at};
+ghost use Rattle.vt_world.specs.Terminals.{bells_of, emu_of, terminal_at};
 
 mod getters;
 mod same;
@@ -138,7 +138,7 @@ impl World {
 
     /// The screen of the console, if it is allocated.
     pub fn screen(&self, c: ConsoleNo) -> Option<&Emu>
-        ensures screen { option_copied result ≡ machine_of (terminal_at self.now.terminals c) }
+        ensures screen { option_copied result ≡ emu_of (terminal_at self.now.terminals c) }
         ensures allocated { is_some result ≡ is_allocated self.now.display c }
     {
         match self.terminals.at(c) {

@@ -1,4 +1,4 @@
-//! The end of a process after each entry of a history, by the rules of docs/SWITCHING.md.
+//! The end of a process after each entry of a history, by the rules of docs/reference/switching.md.
 use super::row::Row;
 use super::row::Row::Call;
 use super::seen::is_seen;

@@ -1,5 +1,5 @@
 //! Switches, waits and deaths in the machine's marks and counts. Expected marks were computed by hand from
-//! docs/SWITCHING.md and ioctl_console(2).
+//! docs/reference/switching.md and ioctl_console(2).
 use super::row::Row;
 use super::row::Row::{Call, Drawn, Front, Hops, Marks, Sized, Waits};
 use super::{answers, check, journal, open};

@@ -1,4 +1,4 @@
-//! A session after it is read. Expected values come from docs/SESSIONS.md.
+//! A session after it is read. Expected values come from docs/reference/sessions.md.
 use session_text::{Session, read};
 use std::process::Abort;
 use std::test::Fail;

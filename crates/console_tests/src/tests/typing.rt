@@ -1,5 +1,5 @@
 //! Scan bytes, and side effects of texts. Expected queues and displays were computed by hand from
-//! docs/SWITCHING.md.
+//! docs/reference/switching.md.
 use super::row::Row;
 use super::row::Row::{Call, Front, Keyed, Queue, Queued};
 use super::{check, check_all, check_row, made, open};

@@ -1,4 +1,4 @@
-//! Walks through programs. Expected values come from docs/SESSIONS.md, and from the worked run of an ordinary
+//! Walks through programs. Expected values come from docs/reference/sessions.md, and from the worked run of an ordinary
 //! session.
 ghost use Rattle.session_text.specs.Walks.{HasActs};
 

@@ -1,5 +1,5 @@
 //! How often ears are asked: each of them once about each notice, whatever it answers. The journal is the one
-//! that docs/SESSIONS.md gives this session; the lines are docs/REVIEW.md's, by hand.
+//! that docs/reference/sessions.md gives this session; the lines are docs/reference/review.md's, by hand.
 use session_text::{Session, read};
 use std::alloc::Global;
 use std::cell::Cell;

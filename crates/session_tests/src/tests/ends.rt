@@ -1,4 +1,4 @@
-//! How races end: their status, the end of the journal and the line on err (docs/PROGRAM.md).
+//! How races end: their status, the end of the journal and the line on err (docs/reference/program.md).
 use super::printed::{Printed, in_order, race_text};
 use std::alloc::Global;
 use std::sync::Wait;

@@ -1,4 +1,4 @@
-//! Texts that aren't certificates, with the line of the fault, by docs/EXPLAIN.md.
+//! Texts that aren't certificates, with the line of the fault, by docs/reference/explain.md.
 use std::alloc::Global;
 use std::process::Abort;
 use vt_explain::{CertError, read_cert};

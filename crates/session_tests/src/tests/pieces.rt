@@ -1,4 +1,4 @@
-//! Inputs that come in pieces (docs/PROGRAM.md, "Order").
+//! Inputs that come in pieces (docs/reference/program.md, "Order").
 ghost use Rattle.std.specs.Prelude.{None, false};
 
 use super::printed::{Printed, blank, words_of};

@@ -1,4 +1,4 @@
-//! Reads of a race that fail: none is tried again (docs/PROGRAM.md).
+//! Reads of a race that fail: none is tried again (docs/reference/program.md).
 use super::printed::{Printed, run_from, words_of};
 use std::alloc::Global;
 use std::sync::Wait;

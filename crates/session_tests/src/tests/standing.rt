@@ -1,4 +1,4 @@
-//! The progress of callers after the answers to their calls, by hand from docs/SESSIONS.md.
+//! The progress of callers after the answers to their calls, by hand from docs/reference/sessions.md.
 use session_order::SessionProgress;
 use session_text::{Program, Session, program_of, read};
 use std::alloc::Global;

@@ -1,11 +1,11 @@
 //! The rows that a text may change.
 ghost use Rattle.std.specs.Prelude.{◌≡◌, ◌↔◌, [], true, false, IfSome, IsSome};
-ghost use Rattle.vt_screen.specs.Screen.{mode_of};
+ghost use Rattle.vt_canvas.specs.Screen.{mode_of};
 ghost use Rattle.vt_screen.specs.ChangedRows.{AreCursorRows, ChangesAtMost, ReadsPlainly, StaysAbove};
 ghost use Rattle.vt_units.specs.Bytes.{decodes};
 
 use super::Emu;
-use crate::place::{Place, next_place};
+use crate::cursor_step::{CursorState, next_cursor};
 
 impl Emu {
     /// The first and the last row that these bytes may change, both included: the cursor's row before them and
@@ -23,13 +23,13 @@ impl Emu {
         let state = self.state();
         let grid = self.grid();
         let size = grid.size();
-        let mut at = Place {
+        let mut at = CursorState {
             x: state.x,
             y: state.y,
             wrap: state.wrap,
         };
         for b in bytes {
-            match next_place(size.cols, state.bottom, at, *b) {
+            match next_cursor(size.cols, state.bottom, at, *b) {
                 Some(next) => at = next,
                 None => return None,
             }

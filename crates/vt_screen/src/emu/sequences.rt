@@ -3,13 +3,14 @@ ghost use Rattle.std.specs.Prelude.{◌≡◌};
 ghost use Rattle.vt_screen.specs.Run.{HasRun};
 
 use crate::Emu;
-use crate::side_effect::SideEffect;
+use vt_canvas::SideEffect;
 use vt_units::{Params, WholeSequence, sequences_are_units};
 
 impl Emu {
-    // Does what `take_sequence` does, by a faster way for a sequence of one or two short parameters.
+    // Does what `take_sequence` does for every sequence. A control sequence of one or two short parameters has
+    // the fastest way; all others go on to `take_escape`, `take_long_sgr` and `take_sequence`, in this order.
     #[inline(always)]
-    pub(super) fn take_short_csi(&mut self, b: &[u8], said: &mut SideEffect) -> usize
+    pub(super) fn take_any_sequence(&mut self, b: &[u8], said: &mut SideEffect) -> usize
         ensures { HasRun self.old b.now result self.new said.new }
     {
         sequences_are_units();

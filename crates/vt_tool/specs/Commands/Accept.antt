@@ -1,5 +1,5 @@
 -- The outcome of `accept` for a journal of a session and the text after it: whether the text is the journal's
--- certificate. This project's own: docs/EXPLAIN.md.
+-- certificate. This project's own: docs/reference/explain.md.
 use Rattle.std.specs.Prelude.{◌≡◌, ℕ, List, [], ◌∷◌, codes, decimal, length, Result, Ok, Err}
 use Rattle.session_order.specs.Sessions.{setup_of}
 use Rattle.session_text.specs.Sessions.{SessionView}

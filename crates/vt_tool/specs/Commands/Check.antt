@@ -1,4 +1,4 @@
--- The outcome of `check` for a journal of a session: the verdict on it. This project's own: docs/JOURNAL.md.
+-- The outcome of `check` for a journal of a session: the verdict on it. This project's own: docs/reference/journal.md.
 use Rattle.std.specs.Prelude.{◌≡◌, ℕ, List, [], ◌∷◌, codes, decimal, length}
 use Rattle.session_order.specs.Sessions.{setup_of}
 use Rattle.session_text.specs.Sessions.{SessionView}

@@ -1,4 +1,4 @@
--- The outcome of `cook`: docs/COOKED.md.
+-- The outcome of `cook`: docs/reference/cooked.md.
 use Rattle.std.specs.Prelude.{◌≡◌, ℕ, List, [], ◌∷◌, ◌++◌, codes, decimal}
 use Rattle.std.specs.List.{flat_map}
 use Rattle.cooked.specs.Given.{Item, byte, line, signal}

@@ -1,5 +1,5 @@
 -- Where an input is cut: before the first of its lines that begins with a mark. This project's own:
--- docs/JOURNAL.md.
+-- docs/reference/journal.md.
 use Rattle.std.specs.Prelude.{◌≡◌, ◌⊎◌, ℕ, ◌≤◌, List, [], ◌∷◌, ◌++◌, codes, length}
 use Rattle.vt_journal.specs.Says.{HasFirst}
 use Rattle.vt_tool.specs.declared.commands.cut.CutMark.{CutMark}

@@ -1,5 +1,5 @@
 -- The outcome of `drill`: five numbers of the serial play of a session that is made from a number. This
--- project's own: docs/SESSIONS.md.
+-- project's own: docs/reference/sessions.md.
 use Rattle.std.specs.Prelude.{◌≡◌, ℕ, ◌≤◌, List, [], ◌∷◌, ◌++◌, codes, decimal, length, map, sum_by, Option}
 use Rattle.std.specs.List.{range_with_len}
 use Rattle.in_queue.specs.Queue.{Queue}

@@ -1,4 +1,4 @@
--- The outcome of `dumpkeys`: docs/KEYS.md, "The dump".
+-- The outcome of `dumpkeys`: docs/reference/keys.md, "The dump".
 use Rattle.std.specs.Prelude.{◌≡◌, ℕ, List, [], None, Ok}
 use Rattle.key_compile.specs.Compiled.{AreTablesOf}
 use Rattle.key_compile.specs.Faults.{compile_fault}

@@ -1,5 +1,5 @@
 -- The outcome of `explain` for a journal of a session: the certificate of its switches. This project's own:
--- docs/EXPLAIN.md.
+-- docs/reference/explain.md.
 use Rattle.std.specs.Prelude.{◌≡◌, List}
 use Rattle.session_order.specs.Sessions.{setup_of, start_of}
 use Rattle.session_text.specs.Sessions.{SessionView}

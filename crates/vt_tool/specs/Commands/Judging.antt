@@ -1,6 +1,6 @@
 -- The outcomes of the commands that read a session and a journal after it: `check`, `review`, `explain` and
 -- `accept`. They refuse the same inputs, and differ in the outcome for a journal. This project's own:
--- docs/JOURNAL.md.
+-- docs/reference/journal.md.
 use Rattle.std.specs.Prelude.{◌≡◌, ◌⊎◌, ℕ, ◌==◌, List, [], Result, Ok, Err, if◌then◌else◌, ⊤}
 use Rattle.session_text.specs.Sessions.{IsSessionOf, SessionValue, SessionView, session_says}
 use Rattle.vt_journal.specs.Says.{JournalSays}

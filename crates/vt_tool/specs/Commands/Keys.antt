@@ -1,4 +1,4 @@
--- The outcome of `keys`: docs/KEYS.md.
+-- The outcome of `keys`: docs/reference/keys.md.
 use Rattle.std.specs.Prelude.{◌≡◌, ◌⊎◌, ℕ, List, [], Some, None, Result, Ok, Err, ⊤}
 use Rattle.key_compile.specs.Compiled.{AreTablesOf}
 use Rattle.key_compile.specs.Faults.{compile_fault}

@@ -1,5 +1,5 @@
 -- The outcome of `play`: the serial play of a session, and the machine after it. This project's own:
--- docs/SESSIONS.md.
+-- docs/reference/sessions.md.
 use Rattle.std.specs.Prelude.{ℕ, List, Ok, Option}
 use Rattle.session_order.specs.Meant.{plain_history}
 use Rattle.session_order.specs.Serial.{IsSerial}

@@ -1,5 +1,5 @@
 -- The outcome of `race`: some legal run of a session, for any schedule of its threads, and the machine after
--- it. This project's own: docs/SESSIONS.md.
+-- it. This project's own: docs/reference/sessions.md.
 use Rattle.std.specs.Prelude.{ℕ, List, Ok, Option}
 use Rattle.session_text.specs.Sessions.{IsSessionOf, SessionValue, SessionView, session_says}
 use Rattle.vt_events.specs.declared.entry.Entry.{Entry}

@@ -1,5 +1,5 @@
 -- The outcome of `review` for a journal of a session: the notices for one ear. This project's own:
--- docs/REVIEW.md.
+-- docs/reference/review.md.
 use Rattle.std.specs.Prelude.{◌≡◌, ℕ, ◌≤◌, ◌-◌, ◌^◌, ◌==◌, [], ◌∷◌, if◌then◌else◌}
 use Rattle.session_order.specs.Sessions.{setup_of, start_of}
 use Rattle.session_text.specs.Sessions.{SessionView}

@@ -1,4 +1,4 @@
--- The outcome of `screen`: docs/SCREEN.md.
+-- The outcome of `screen`: docs/reference/screen.md.
 use Rattle.std.specs.Prelude.{◌≡◌, ℕ, ◌≤◌, List}
 use Rattle.vt_dump.specs.Rows.{rows_text}
 use Rattle.vt_screen.specs.Run.{after, start}

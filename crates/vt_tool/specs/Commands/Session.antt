@@ -1,5 +1,5 @@
 -- The outcomes that the commands over sessions have in common: a run of a session that is printed, and a text
--- that is refused. This project's own: docs/SESSIONS.md.
+-- that is refused. This project's own: docs/reference/sessions.md.
 use Rattle.std.specs.Prelude.{◌≡◌, ℕ, List, ◌++◌, Err}
 use Rattle.session_order.specs.Sessions.{IsRightHistory, start_of}
 use Rattle.session_run.specs.Final.{final_text}

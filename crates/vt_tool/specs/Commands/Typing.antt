@@ -1,5 +1,5 @@
 -- The outcome of `type` for a table with a keymap and scan bytes: a line for each byte. This project's own:
--- docs/KEYS.md.
+-- docs/reference/keys.md.
 use Rattle.std.specs.Prelude.{◌≡◌, ℕ, Bool, true, false, ◌==◌, ◌||◌, ◌∷◌, ◌++◌, [], codes, decimal, List, Option, Some, None, Result, Ok, Err, if◌then◌else◌}
 use lib.Pointwise.{pointwise}
 use lib.Dec.{eqb}

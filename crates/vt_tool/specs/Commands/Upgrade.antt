@@ -1,4 +1,4 @@
--- The outcome of `upgrade`: a journal of version 1 in version 2. This project's own: docs/JOURNAL.md.
+-- The outcome of `upgrade`: a journal of version 1 in version 2. This project's own: docs/reference/journal.md.
 use Rattle.std.specs.Prelude.{◌≡◌, ◌⊎◌, ℕ, List, Ok, Err}
 use Rattle.vt_events.specs.declared.entry.Entry.{Entry}
 use Rattle.vt_journal.specs.Journal.{journal_text}

@@ -3,13 +3,13 @@ ghost use Rattle.vt_tool.specs.Commands.Cut.{BeginsLine, HasMark, IsCut, IsMarke
 
 use vt_journal::version_of;
 
-/// The first word of a certificate (docs/EXPLAIN.md).
+/// The first word of a certificate (docs/reference/explain.md).
 const CERT_MARK: &[u8] = b"%explain ";
 
 /// The mark at the beginning of a line, before which an input is cut.
 #[derive(Clone, Copy)]
 pub(crate) enum CutMark {
-    /// The first line of a journal (docs/JOURNAL.md).
+    /// The first line of a journal (docs/reference/journal.md).
     Journal,
     /// The first word of a certificate.
     Certificate,

@@ -3,6 +3,7 @@ ghost use Rattle.std.specs.Prelude.{◌≡◌, ◌≤◌, [], false, length, if�
 ghost use Rattle.vt_switch.specs.Calls.{is_held, names};
 ghost use Rattle.vt_switch.specs.Display.{is_allocated};
 ghost use Rattle.vt_world.specs.Deeds.{apply_deeds};
+ghost use Rattle.vt_world.specs.Lent.{grid_after_allocation};
 ghost use Rattle.vt_world.specs.Rows.{with_allocation, disallocate_deeds, free_deeds};
 ghost use Rattle.vt_world.specs.Spare.{HasSize, extent};
 ghost use Rattle.vt_world.specs.Refusals.{is_in_use};
@@ -17,7 +18,8 @@ impl World {
     pub(crate) fn allocate(&mut self, c: ConsoleNo, grid: &mut Option<Grid>)
         requires { is_allocated self.old.display c ≡ false
             → HasSize (extent self.old.rows self.old.cols) grid.old }
-        ensures { self.new ≡ apply_deeds self.old (with_allocation c []) }
+        ensures world { self.new ≡ apply_deeds self.old (with_allocation c []) }
+        ensures grid { grid.new ≡ grid_after_allocation (is_allocated self.old.display c) grid.old }
     {
         each_target_was_asked_for();
         if self.switch.allocated(c) {

@@ -1,6 +1,7 @@
 //! Descriptors: they are opened, closed, written to and read from.
 ghost use Rattle.std.specs.Prelude.{◌≡◌, ◌≤◌, [], length, min};
 ghost use Rattle.vt_events.specs.declared.event.Event.TheVariants as event;
+ghost use Rattle.vt_world.specs.Lent.{answer_of, grid_after};
 ghost use Rattle.vt_world.specs.Spare.{HasGrid, extent, needed_grid};
 ghost use Rattle.vt_world.specs.Step.{HasRowResult, own_row_result, text_of_answer};
 
@@ -20,7 +21,8 @@ impl World {
         grid: &mut Option<Grid>,
     ) -> Result<Reply, Errno>
         requires { HasGrid (needed_grid (extent self.old.rows self.old.cols) (event.OpenCon n)) grid.old }
-        ensures { HasRowResult (own_row_result self.old p (event.OpenCon n)) self.new result }
+        ensures effect { HasRowResult (own_row_result self.old p (event.OpenCon n)) self.new result }
+        ensures grid { grid.new ≡ grid_after self.old p (event.OpenCon n) (answer_of result) grid.old }
     {
         let c = self.named(n).ok_or(Errno::Nxio)?;
         let fd = self.procs.add_open(p, c).ok_or(Errno::Busy)?;

@@ -5,6 +5,7 @@ ghost use Rattle.vt_events.specs.declared.event.Event.TheVariants as event;
 ghost use Rattle.vt_procs.specs.Callers.{is_live, is_opened};
 ghost use Rattle.vt_switch.specs.Display.{is_allocated};
 ghost use Rattle.vt_world.specs.Rows.{allocated_mask, lowest_unopened};
+ghost use Rattle.vt_world.specs.Lent.{answer_of, grid_after};
 ghost use Rattle.vt_world.specs.Spare.{HasGrid, extent, is_console, needed_grid};
 ghost use Rattle.vt_world.specs.Step.{HasRowResult, own_row_result};
 ghost use Rattle.vt_world.specs.Refusals.{console_by_number};
@@ -27,7 +28,8 @@ impl World {
     ) -> Result<Reply, Errno>
         requires clear { self.old.trace.marks ≡ [] }
         requires grid { HasGrid (needed_grid (extent self.old.rows self.old.cols) (event.Activate fd n)) grid.old }
-        ensures { HasRowResult (own_row_result self.old p (event.Activate fd n)) self.new result }
+        ensures effect { HasRowResult (own_row_result self.old p (event.Activate fd n)) self.new result }
+        ensures grid { grid.new ≡ grid_after self.old p (event.Activate fd n) (answer_of result) grid.old }
     {
         self.owned_console(p, fd)?;
         let to = ConsoleNo::new(n).ok_or(Errno::Nxio)?;

@@ -7,6 +7,7 @@ ghost use Rattle.vt_events.specs.declared.event.Event.TheVariants as event;
 ghost use Rattle.vt_grid.specs.Grid.{IsFull};
 ghost use Rattle.vt_procs.specs.Callers.{has_open};
 ghost use Rattle.vt_world.specs.Rows.{dump_of, screen_bytes};
+ghost use Rattle.vt_world.specs.Lent.{answer_of, grid_after};
 ghost use Rattle.vt_world.specs.Spare.{HasGrid, extent, is_console, is_extent, needed_grid};
 ghost use Rattle.vt_world.specs.Step.{HasRowResult, own_row_result, text_of_answer};
 ghost use Rattle.vt_world.specs.Terminals.{terminal_at};
@@ -36,7 +37,8 @@ impl World {
         grid: &mut Option<Grid>,
     ) -> Result<Reply, Errno>
         requires { HasGrid (needed_grid (extent self.old.rows self.old.cols) (event.Resize fd rows cols)) grid.old }
-        ensures { HasRowResult (own_row_result self.old p (event.Resize fd rows cols)) self.new result }
+        ensures effect { HasRowResult (own_row_result self.old p (event.Resize fd rows cols)) self.new result }
+        ensures grid { grid.new ≡ grid_after self.old p (event.Resize fd rows cols) (answer_of result) grid.old }
     {
         let c = self.owned_console(p, fd)?;
         check_sense(is_extent(rows, cols))?;

@@ -120,8 +120,8 @@ impl Terminal {
 
     // Whether the other's screen has the size of this one's.
     fn has_size_of(&self, other: &Terminal) -> bool
-        ensures rows { IsTrue result → self.now.machine.state.grid.rows ≡ other.now.machine.state.grid.rows }
-        ensures columns { IsTrue result → self.now.machine.state.grid.cols ≡ other.now.machine.state.grid.cols }
+        ensures rows { IsTrue result → self.now.emu.state.grid.rows ≡ other.now.emu.state.grid.rows }
+        ensures columns { IsTrue result → self.now.emu.state.grid.cols ≡ other.now.emu.state.grid.cols }
     {
         let size = self.emu().grid().size();
         let shape = other.emu().grid().size();

@@ -1,4 +1,4 @@
-use Rattle.call_bytes.proofs.KeptBytes.{colours_kept, pairs_kept, words_kept}
+use Rattle.call_bytes.proofs.for_laws.KeptBytes.{colours_kept, pairs_kept, words_kept}
 use Rattle.call_bytes.proofs.laws.adds_what_was_read.Goals as goal
 
 pub returns-clause-pairs : goal.returns-clause-pairs

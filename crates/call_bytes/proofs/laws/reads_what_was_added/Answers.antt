@@ -1,4 +1,4 @@
-use Rattle.call_bytes.proofs.Again.{colours_again, pairs_again, words_again}
+use Rattle.call_bytes.proofs.for_laws.Again.{colours_again, pairs_again, words_again}
 use Rattle.call_bytes.proofs.laws.reads_what_was_added.Goals as goal
 
 pub returns-clause-pairs : goal.returns-clause-pairs

@@ -1,4 +1,4 @@
-use Rattle.cooked.proofs.Pushes.{list_is_its_pushes}
+use Rattle.cooked.proofs.for_laws.Pushes.{list_is_its_pushes}
 use Rattle.cooked.proofs.laws.list_is_its_pushes.Goals as goal
 
 pub returns : goal.returns

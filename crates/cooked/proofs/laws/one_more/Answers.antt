@@ -1,4 +1,4 @@
-use Rattle.cooked.proofs.Pushes.{one_more}
+use Rattle.cooked.proofs.for_laws.Pushes.{one_more}
 use Rattle.cooked.proofs.laws.one_more.Goals as goal
 
 pub returns : goal.returns

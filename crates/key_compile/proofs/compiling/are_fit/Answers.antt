@@ -7,9 +7,9 @@ use Rattle.key_compile.proofs.compiling.are_fit.Goals as goal
 
 pub loop-i-preserved : goal.loop-i-preserved
 loop-i-preserved c =
-    All-more (λ (l : KeymapLine). IsTrue (is_fit l.telling)) c.args.lines.now c.loop-i.i c.index-lines-i.result c.loop-i-test.true c.loop-i.invariant
-    (subst (λ (l : KeymapLine). IsTrue (is_fit l.telling)) c.index-lines-i.is
-    (subst (λ (l : KeymapLine). IsTrue (is_fit l.telling)) c.line.view_is c.line.invariant))
+    All-more (λ (l : KeymapLine). IsTrue (is_fit l.meaning)) c.args.lines.now c.loop-i.i c.index-lines-i.result c.loop-i-test.true c.loop-i.invariant
+    (subst (λ (l : KeymapLine). IsTrue (is_fit l.meaning)) c.index-lines-i.is
+    (subst (λ (l : KeymapLine). IsTrue (is_fit l.meaning)) c.line.view_is c.line.invariant))
 
 pub returns : goal.returns
 returns c =

@@ -1,4 +1,4 @@
-use Rattle.key_compile.proofs.Dumpable.{compiled_are_dumpable}
+use Rattle.key_compile.proofs.for_laws.Dumpable.{compiled_are_dumpable}
 use Rattle.key_compile.proofs.laws.compiled_are_dumpable.Goals as goal
 
 pub returns : goal.returns

@@ -1,4 +1,4 @@
-use Rattle.key_compile.proofs.Same.{one_value}
+use Rattle.key_compile.proofs.for_laws.Same.{one_value}
 use Rattle.key_compile.proofs.laws.one_value.Goals as goal
 
 pub returns : goal.returns

@@ -1,4 +1,4 @@
-use Rattle.key_dump.proofs.ReadsBack.{dump_reads_back}
+use Rattle.key_dump.proofs.for_laws.ReadsBack.{dump_reads_back}
 use Rattle.key_dump.proofs.laws.dump_reads_back.Goals as goal
 
 pub returns : goal.returns

@@ -1,4 +1,4 @@
-use Rattle.key_machine.proofs.Histories.{all_come_up, downs_are_last}
+use Rattle.key_machine.proofs.for_laws.Histories.{all_come_up, downs_are_last}
 use Rattle.key_machine.proofs.laws.keys_come_up.Goals as goal
 
 pub returns-clause-last : goal.returns-clause-last

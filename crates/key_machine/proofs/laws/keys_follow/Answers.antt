@@ -1,4 +1,4 @@
-use Rattle.key_machine.proofs.Following.{keys_follow}
+use Rattle.key_machine.proofs.for_laws.Following.{keys_follow}
 use Rattle.key_machine.proofs.laws.keys_follow.Goals as goal
 
 pub returns : goal.returns

@@ -1,4 +1,4 @@
-use Rattle.key_machine.proofs.Histories.{presses_record, releases_take}
+use Rattle.key_machine.proofs.for_laws.Histories.{presses_record, releases_take}
 use Rattle.key_machine.proofs.laws.presses_record.Goals as goal
 
 pub returns-clause-presses : goal.returns-clause-presses

@@ -1,4 +1,4 @@
-use Rattle.key_syms.proofs.Own.{code_points_are_their_own, names_are_their_own}
+use Rattle.key_syms.proofs.for_laws.Own.{code_points_are_their_own, names_are_their_own}
 use Rattle.key_syms.proofs.laws.names_are_their_own.Goals as goal
 
 pub returns-clause-names : goal.returns-clause-names

@@ -1,4 +1,4 @@
-use Rattle.key_text.proofs.PartsRead.{faults_are_first, faults_stop}
+use Rattle.key_text.proofs.for_laws.PartsRead.{faults_are_first, faults_stop}
 use Rattle.key_text.proofs.laws.faults_stop.Goals as goal
 
 pub returns-clause-stop : goal.returns-clause-stop

@@ -1,4 +1,4 @@
-use Rattle.key_text.proofs.SameSenses.{senses_decide}
+use Rattle.key_text.proofs.for_laws.SameSenses.{senses_decide}
 use Rattle.key_text.proofs.laws.senses_decide.Goals as goal
 
 pub returns : goal.returns

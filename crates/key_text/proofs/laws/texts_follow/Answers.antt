@@ -1,5 +1,5 @@
-use Rattle.key_text.proofs.Elsewhere.{places_tell}
-use Rattle.key_text.proofs.PartsRead.{starts_there, texts_follow}
+use Rattle.key_text.proofs.for_laws.Elsewhere.{places_tell}
+use Rattle.key_text.proofs.for_laws.PartsRead.{starts_there, texts_follow}
 use Rattle.key_text.proofs.laws.texts_follow.Goals as goal
 
 pub returns-clause-start : goal.returns-clause-start

@@ -3,7 +3,7 @@ use Rattle.screen_c.proofs.Pieces.{count_more, outs_more, places_more, room_more
 use Rattle.screen_c.specs.Shown.{c_out}
 use Rattle.screen_c.specs.declared.vt_out.VtOut.{VtOut}
 use Rattle.vt_screen.specs.Run.{outs_of_option, outs_of_run}
-use Rattle.vt_screen.specs.declared.out.Out.{Out}
+use Rattle.vt_canvas.specs.declared.out.Out.{Out}
 use Rattle.screen_c.proofs.feeding.feed.Goals as goal
 
 pub loop-n-preserved : goal.loop-n-preserved

@@ -1,4 +1,4 @@
-use Rattle.session_order.proofs.Meant.{ends_meant, follows_meant, legal_meant, next-meant, next_plain, replay_meant}
+use Rattle.session_order.proofs.for_laws.Meant.{ends_meant, follows_meant, legal_meant, next-meant, next_plain, replay_meant}
 use Rattle.session_order.proofs.laws.meant_laws.Goals as goal
 
 pub returns : goal.returns

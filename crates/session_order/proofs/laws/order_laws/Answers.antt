@@ -1,4 +1,4 @@
-use Rattle.session_order.proofs.Orders.{entries_are_turns, histories_are_orders, orders_are_legal}
+use Rattle.session_order.proofs.for_laws.Orders.{entries_are_turns, histories_are_orders, orders_are_legal}
 use Rattle.session_order.proofs.laws.order_laws.Goals as goal
 
 pub returns-clause-legal : goal.returns-clause-legal

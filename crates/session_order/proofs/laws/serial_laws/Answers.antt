@@ -1,4 +1,4 @@
-use Rattle.session_order.proofs.Progress.{rounds-go-on, serial_ends}
+use Rattle.session_order.proofs.for_laws.Progress.{rounds-go-on, serial_ends}
 use Rattle.session_order.proofs.Turns.{finished_stays, rounds_more, serial_one}
 use Rattle.session_order.proofs.Turns.{serial_right}
 use Rattle.session_order.proofs.laws.serial_laws.Goals as goal

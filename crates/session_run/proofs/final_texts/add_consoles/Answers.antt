@@ -5,6 +5,6 @@ use Rattle.session_run.proofs.final_texts.add_consoles.Goals as goal
 
 pub loop-n-preserved : goal.loop-n-preserved
 loop-n-preserved c =
-    consoles_more c.args.world.now c.loop-n.n c.loop-n.text.bytes c.add_place.new.text.bytes
+    consoles_more c.args.world.now c.loop-n.n c.loop-n.text.bytes c.add_console_part.new.text.bytes
     (c.args.text.now.bytes ++ consoles_text c.args.world.now 1 63) (omega arith)
-    c.in_ok-add_place.ensures c.loop-n.invariant
+    c.in_ok-add_console_part.ensures c.loop-n.invariant

@@ -1,4 +1,4 @@
-use Rattle.session_text.proofs.OneSession.{one_session}
+use Rattle.session_text.proofs.for_laws.OneSession.{one_session}
 use Rattle.session_text.proofs.laws.one_session.Goals as goal
 
 pub returns : goal.returns

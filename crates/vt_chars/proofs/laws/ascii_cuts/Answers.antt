@@ -1,4 +1,4 @@
-use Rattle.vt_chars.proofs.Cutting.{ascii_cuts}
+use Rattle.vt_chars.proofs.for_laws.Cutting.{ascii_cuts}
 use Rattle.vt_chars.proofs.laws.ascii_cuts.Goals as goal
 
 pub returns : goal.returns

@@ -1,4 +1,4 @@
-use Rattle.vt_chars.proofs.Cutting.{byte_more}
+use Rattle.vt_chars.proofs.for_laws.Cutting.{byte_more}
 use Rattle.vt_chars.proofs.laws.byte_more.Goals as goal
 
 pub returns : goal.returns

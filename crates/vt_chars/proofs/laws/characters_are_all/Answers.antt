@@ -1,4 +1,4 @@
-use Rattle.vt_chars.proofs.Cutting.{characters_are_all}
+use Rattle.vt_chars.proofs.for_laws.Cutting.{characters_are_all}
 use Rattle.vt_chars.proofs.laws.characters_are_all.Goals as goal
 
 pub returns : goal.returns

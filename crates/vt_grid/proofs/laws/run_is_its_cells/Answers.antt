@@ -1,4 +1,4 @@
-use Rattle.vt_grid.proofs.Runs.{cell_keeps_width, run_of_more, run_of_none}
+use Rattle.vt_grid.proofs.for_laws.Runs.{cell_keeps_width, run_of_more, run_of_none}
 use Rattle.vt_grid.proofs.laws.run_is_its_cells.Goals as goal
 
 pub returns-clause-none : goal.returns-clause-none

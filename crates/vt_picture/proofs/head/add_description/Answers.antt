@@ -4,7 +4,7 @@ use Rattle.vt_grid.specs.Grid.{GridView}
 use Rattle.vt_picture.specs.Picture.{cursor_words, description_text, size_words}
 use Rattle.vt_picture.proofs.Texts.{in_five}
 use Rattle.vt_picture.proofs.head.add_description.Goals as goal
-use Rattle.vt_screen.specs.declared.screen_state.ScreenState.{ScreenState}
+use Rattle.vt_canvas.specs.declared.screen_state.ScreenState.{ScreenState}
 
 pub returns : goal.returns
 unfolding description_text

@@ -1,4 +1,4 @@
-use Rattle.vt_redraw.proofs.Redrawing.{changes-redraw, screens-redraw}
+use Rattle.vt_redraw.proofs.for_laws.Redrawing.{changes-redraw, screens-redraw}
 use Rattle.vt_redraw.proofs.laws.screens_redraw.Goals as goal
 
 pub returns-clause-screens : goal.returns-clause-screens

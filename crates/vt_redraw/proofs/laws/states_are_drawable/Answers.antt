@@ -1,4 +1,4 @@
-use Rattle.vt_redraw.proofs.Reached.{states_are_drawable, tape_states_are_drawable}
+use Rattle.vt_redraw.proofs.for_laws.Reached.{states_are_drawable, tape_states_are_drawable}
 use Rattle.vt_redraw.proofs.laws.states_are_drawable.Goals as goal
 
 pub returns : goal.returns

@@ -2,8 +2,8 @@ use Rattle.std.proofs.Common.{◌≡◌, List, ℕ, ◌++◌, ap, ◌∙◌}
 use Rattle.vt_grid.specs.Grid.{GridView}
 use Rattle.vt_redraw.proofs.Joins.{joined}
 use Rattle.vt_redraw.specs.State.{cursor_text, modes_text, palette_text, pen_text, region_text, saved_text, stops_text}
-use Rattle.vt_screen.specs.Screen.{Screen}
-use Rattle.vt_screen.specs.declared.screen_state.ScreenState.{ScreenState}
+use Rattle.vt_canvas.specs.Screen.{Screen}
+use Rattle.vt_canvas.specs.declared.screen_state.ScreenState.{ScreenState}
 use Rattle.vt_redraw.proofs.state.add_state.Goals as goal
 
 pub returns : goal.returns

@@ -2,9 +2,9 @@ use Rattle.std.proofs.Common.{◌≡◌, ◌≤◌, true, ap, arith}
 use Rattle.std.specs.List.{list_all}
 use Rattle.std.proofs.lemmas.Bool.{and_parts}
 use Rattle.vt_grid.specs.Grid.{GridView}
-use Rattle.vt_redraw.proofs.Redrawing.{IsState, state_parts}
+use Rattle.vt_redraw.proofs.for_laws.Redrawing.{IsState, state_parts}
 use Rattle.vt_redraw.specs.Drawable.{is_redrawable, is_row_drawable, is_state_drawable}
-use Rattle.vt_screen.specs.Screen.{Screen}
+use Rattle.vt_canvas.specs.Screen.{Screen}
 use Rattle.vt_redraw.proofs.state.stays_drawable.Goals as goal
 
 drawable : (s : Screen) → is_redrawable s ≡ true → IsState s.grid.rows s.grid.cols s.state

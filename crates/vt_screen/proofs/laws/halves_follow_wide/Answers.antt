@@ -1,4 +1,4 @@
-use Rattle.vt_screen.proofs.TapeHalves.{halves_follow_wide}
+use Rattle.vt_screen.proofs.for_laws.TapeHalves.{halves_follow_wide}
 use Rattle.vt_screen.proofs.laws.halves_follow_wide.Goals as goal
 
 pub returns : goal.returns

@@ -1,4 +1,4 @@
-use Rattle.vt_screen.proofs.TapeHalves.{tapes_keep_halves}
+use Rattle.vt_screen.proofs.for_laws.TapeHalves.{tapes_keep_halves}
 use Rattle.vt_screen.proofs.laws.tapes_keep_halves.Goals as goal
 
 pub returns : goal.returns

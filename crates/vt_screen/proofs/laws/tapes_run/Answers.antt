@@ -1,4 +1,4 @@
-use Rattle.vt_screen.proofs.Tapes.{stretches_run, any_tape_cut}
+use Rattle.vt_screen.proofs.for_laws.Tapes.{stretches_run, any_tape_cut}
 use Rattle.vt_screen.proofs.laws.tapes_run.Goals as goal
 
 pub returns-clause-stretches : goal.returns-clause-stretches

@@ -2,7 +2,7 @@ use Rattle.vt_cells.specs.Width.{columns}
 use Rattle.vt_screen.proofs.Printed.{print_mode}
 use Rattle.vt_screen.specs.Run.{screen_effects, with_outs}
 use Rattle.std.proofs.Common.{[]}
-use Rattle.vt_units.proofs.Cutting.{text_cut}
+use Rattle.vt_units.proofs.for_laws.Cutting.{text_cut}
 use Rattle.vt_screen.proofs.laws.texts_are_cut.Goals as goal
 
 pub returns : goal.returns

@@ -1,7 +1,7 @@
 use Rattle.std.proofs.Common.{Option, refl, subst, sym, ◌∙◌}
 use Rattle.vt_screen.specs.Hearing.{HearsAll}
 use Rattle.vt_screen.specs.Run.{outs_of_option}
-use Rattle.vt_screen.specs.declared.out.Out.{Out}
+use Rattle.vt_canvas.specs.declared.out.Out.{Out}
 use Rattle.vt_screen.proofs.telling.tell.Goals as goal
 
 pub returns-in-Some : goal.returns-in-Some

@@ -1,4 +1,4 @@
-use Rattle.vt_screen.proofs.TextEnds.{text_fills_rows, text_scrolls}
+use Rattle.vt_screen.proofs.for_laws.TextEnds.{text_fills_rows, text_scrolls}
 use Rattle.vt_screen.proofs.text_laws.text_fills_rows.Goals as goal
 
 pub returns-clause-fits : goal.returns-clause-fits

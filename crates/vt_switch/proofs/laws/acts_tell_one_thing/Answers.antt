@@ -1,6 +1,6 @@
-use Rattle.vt_switch.proofs.Due.{hops_are_due}
-use Rattle.vt_switch.proofs.Marks.{hops_of_marks}
-use Rattle.vt_switch.proofs.Told.{one_news_is_told}
+use Rattle.vt_switch.proofs.for_laws.Due.{hops_are_due}
+use Rattle.vt_switch.proofs.for_laws.Marks.{hops_of_marks}
+use Rattle.vt_switch.proofs.for_laws.Told.{one_news_is_told}
 use Rattle.vt_switch.proofs.laws.acts_tell_one_thing.Goals as goal
 
 pub returns-clause-due : goal.returns-clause-due

@@ -1,4 +1,4 @@
-use Rattle.vt_switch.proofs.Lawful.{owners_stay_live, target_law}
+use Rattle.vt_switch.proofs.for_laws.Lawful.{owners_stay_live, target_law}
 use Rattle.vt_switch.proofs.laws.each_target_was_asked_for.Goals as goal
 
 pub returns-clause-asked : goal.returns-clause-asked

@@ -1,4 +1,4 @@
-use Rattle.vt_switch.proofs.Hops.{only_hops_switch}
+use Rattle.vt_switch.proofs.for_laws.Hops.{only_hops_switch}
 use Rattle.vt_switch.proofs.laws.only_hops_switch.Goals as goal
 
 pub returns : goal.returns

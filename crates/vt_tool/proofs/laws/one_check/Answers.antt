@@ -1,4 +1,4 @@
-use Rattle.vt_tool.proofs.Outcomes.{one_judged, one_outcome}
+use Rattle.vt_tool.proofs.for_laws.Outcomes.{one_judged, one_outcome}
 use Rattle.vt_tool.specs.declared.commands.judge_request.JudgeRequest.TheVariants as asked
 use Rattle.vt_tool.proofs.laws.one_check.Goals as goal
 

@@ -1,4 +1,4 @@
-use Rattle.vt_tool.proofs.Outcomes.{one_explained, one_outcome}
+use Rattle.vt_tool.proofs.for_laws.Outcomes.{one_explained, one_outcome}
 use Rattle.vt_tool.specs.declared.commands.judge_request.JudgeRequest.TheVariants as asked
 use Rattle.vt_tool.proofs.laws.one_explain.Goals as goal
 

@@ -1,7 +1,7 @@
 use Rattle.std.proofs.Common.{◌≡◌, ℕ, List, sym, ◌∙◌}
-use Rattle.vt_tool.proofs.Keymaps.{one_dump, one_keys, one_typed}
-use Rattle.vt_tool.proofs.Plays.{one_drill, one_played}
-use Rattle.vt_tool.proofs.Upgraded.{one_upgraded}
+use Rattle.vt_tool.proofs.for_laws.Keymaps.{one_dump, one_keys, one_typed}
+use Rattle.vt_tool.proofs.for_laws.Plays.{one_drill, one_played}
+use Rattle.vt_tool.proofs.for_laws.Upgraded.{one_upgraded}
 use Rattle.vt_tool.specs.Commands.{Gives, IsSerial}
 use Rattle.vt_tool.specs.Outcome.{Outcome}
 use Rattle.vt_tool.specs.declared.command.Command.{Command}

@@ -1,4 +1,4 @@
-use Rattle.vt_tool.proofs.Plays.{race_may_play, run_decides}
+use Rattle.vt_tool.proofs.for_laws.Plays.{race_may_play, run_decides}
 use Rattle.vt_tool.proofs.laws.race_outcomes.Goals as goal
 
 pub returns-clause-decided : goal.returns-clause-decided

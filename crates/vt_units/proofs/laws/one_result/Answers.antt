@@ -1,4 +1,4 @@
-use Rattle.vt_units.proofs.Cutting.{cut_runs}
+use Rattle.vt_units.proofs.for_laws.Cutting.{cut_runs}
 use Rattle.vt_units.specs.Laws.{event_effects}
 use Rattle.vt_units.proofs.laws.one_result.Goals as goal
 

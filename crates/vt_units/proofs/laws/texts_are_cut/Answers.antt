@@ -1,4 +1,4 @@
-use Rattle.vt_units.proofs.Cutting.{text_cut}
+use Rattle.vt_units.proofs.for_laws.Cutting.{text_cut}
 use Rattle.vt_units.specs.Laws.{event_effects}
 use Rattle.vt_units.proofs.laws.texts_are_cut.Goals as goal
 

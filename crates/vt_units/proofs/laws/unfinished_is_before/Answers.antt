@@ -1,4 +1,4 @@
-use Rattle.vt_units.proofs.Completes.{unfinished_is_before}
+use Rattle.vt_units.proofs.for_laws.Completes.{unfinished_is_before}
 use Rattle.vt_units.proofs.laws.unfinished_is_before.Goals as goal
 
 pub returns : goal.returns

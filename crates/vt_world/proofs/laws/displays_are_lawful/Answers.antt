@@ -1,6 +1,6 @@
-use Rattle.vt_world.proofs.Called.{acts_are_calls}
-use Rattle.vt_world.proofs.Displays.{acts_make_cores, displays_are_lawful, owners_are_live, targets_are_explained}
-use Rattle.vt_world.proofs.Traces.{traces_apply_marks_acts, traces_apply_marks_deeds, traces_apply_marks-hops}
+use Rattle.vt_world.proofs.for_laws.Called.{acts_are_calls}
+use Rattle.vt_world.proofs.for_laws.Displays.{acts_make_cores, displays_are_lawful, owners_are_live, targets_are_explained}
+use Rattle.vt_world.proofs.for_laws.Traces.{traces_apply_marks_acts, traces_apply_marks_deeds, traces_apply_marks-hops}
 use Rattle.vt_world.proofs.laws.displays_are_lawful.Goals as goal
 
 pub returns-clause-lawful : goal.returns-clause-lawful

@@ -1,4 +1,4 @@
-use Rattle.vt_world.proofs.Displays.{displays_are_lawful_from}
+use Rattle.vt_world.proofs.for_laws.Displays.{displays_are_lawful_from}
 use Rattle.vt_world.proofs.laws.displays_are_lawful_from.Goals as goal
 
 pub returns : goal.returns

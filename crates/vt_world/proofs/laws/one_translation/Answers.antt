@@ -1,4 +1,4 @@
-use Rattle.vt_world.proofs.Translations.{one_translation}
+use Rattle.vt_world.proofs.for_laws.Translations.{one_translation}
 use Rattle.vt_world.proofs.laws.one_translation.Goals as goal
 
 pub returns : goal.returns

@@ -1,4 +1,4 @@
-use Rattle.vt_world.proofs.Unchanged.{broken_waits_are_taken, later_answers_stay, refusals_can_go, refusals_change_nothing}
+use Rattle.vt_world.proofs.for_laws.Unchanged.{broken_waits_are_taken, later_answers_stay, refusals_can_go, refusals_change_nothing}
 use Rattle.vt_world.proofs.laws.refused_calls_change_nothing.Goals as goal
 
 pub returns-clause-refused : goal.returns-clause-refused

@@ -1,5 +1,5 @@
-use Rattle.vt_world.proofs.Admissions.{admissions_are_starts, admissions_come_first}
-use Rattle.vt_world.proofs.Rights.{rights_are_own}
+use Rattle.vt_world.proofs.for_laws.Admissions.{admissions_are_starts, admissions_come_first}
+use Rattle.vt_world.proofs.for_laws.Rights.{rights_are_own}
 use Rattle.vt_world.proofs.laws.rights_are_own.Goals as goal
 
 pub returns-clause-own : goal.returns-clause-own

@@ -1,5 +1,5 @@
-use Rattle.vt_world.proofs.Allocation.{terminals_are_allocated}
-use Rattle.vt_world.proofs.Screens.{screens_are_tapes}
+use Rattle.vt_world.proofs.for_laws.Allocation.{terminals_are_allocated}
+use Rattle.vt_world.proofs.for_laws.Screens.{screens_are_tapes}
 use Rattle.vt_world.proofs.laws.screens_are_tapes.Goals as goal
 
 pub returns-clause-screens : goal.returns-clause-screens

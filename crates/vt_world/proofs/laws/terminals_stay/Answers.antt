@@ -1,4 +1,4 @@
-use Rattle.vt_world.proofs.Untouched.{terminals_stay}
+use Rattle.vt_world.proofs.for_laws.Untouched.{terminals_stay}
 use Rattle.vt_world.proofs.laws.terminals_stay.Goals as goal
 
 pub returns : goal.returns

@@ -1,5 +1,5 @@
-use Rattle.vt_world.proofs.Moments.{moments_grow}
-use Rattle.vt_world.proofs.Tellings.{traces_tell_news}
+use Rattle.vt_world.proofs.for_laws.Moments.{moments_grow}
+use Rattle.vt_world.proofs.for_laws.Tellings.{traces_tell_news}
 use Rattle.vt_world.proofs.laws.traces_tell_news.Goals as goal
 
 pub returns-clause-news : goal.returns-clause-news

@@ -3,7 +3,7 @@ use Rattle.vt_events.specs.declared.entry.Entry.{Entry}
 use Rattle.machine.specs.History.{Start, world_of}
 use Rattle.machine.specs.MachineState.{MachineState, ObeysLaws}
 use Rattle.vt_world.specs.State.{WorldState}
-use Rattle.vt_world.specs.Terminals.{machine_of, terminal_at}
+use Rattle.vt_world.specs.Terminals.{emu_of, terminal_at}
 use Rattle.machine.proofs.Afters.{is_start}
 use Rattle.machine.proofs.machine.Machine.stays_lawful.Goals as goal
 
@@ -22,7 +22,7 @@ returns c =
       calls = c.self.invariant;
       displays = c.displays_are_lawful.ensures.lawful (world_of s) all (is_start s c.self.invariant.after.fit);
       screens = λ n low.
-          ap (λ (w : WorldState). machine_of (terminal_at w.terminals n)) c.self.invariant.after.left.replayed
+          ap (λ (w : WorldState). emu_of (terminal_at w.terminals n)) c.self.invariant.after.left.replayed
           ∙ c.screens_are_tapes.ensures.screens (world_of s) all (is_start s c.self.invariant.after.fit) n low;
     } in
     subst (λ (x : MachineState). ObeysLaws x) c.self.view_is here

@@ -28,7 +28,7 @@ invariant_of-self g c =
       reply = c.copy.result;
     } in
     let of : IsEntryOf c.args.caller c.args.seq c.args.event.now c.step_with-reply.result entry =
-    record { caller = refl; number = refl; event = c.replace.ensures.value; reply = c.copy.ensures } in
+    record { caller = refl; number = refl; event = c.replace.ensures.value; reply = c.copy.ensures.answer } in
     let stepped : HasOutcome (step v.world c.args.caller c.args.event.now) w.world c.step_with-reply.result =
     subst (λ (x : WorldState). HasOutcome (step x c.args.caller c.args.event.now) w.world c.step_with-reply.result)
     (ap (λ (s : State). s.world) given) c.step_with-reply.ensures.step in

@@ -4,7 +4,7 @@ use Rattle.vt_grid.specs.Grid.{GridView}
 use Rattle.vt_screen.proofs.Changes.{all_come, come_further}
 use Rattle.vt_screen.specs.ChangedRows.{ReadsPlainly, is_plain_byte}
 use Rattle.vt_screen.specs.Run.{with_outs}
-use Rattle.vt_screen.specs.declared.screen_state.ScreenState.{ScreenState}
+use Rattle.vt_canvas.specs.declared.screen_state.ScreenState.{ScreenState}
 use Rattle.vt_screen.proofs.emu.Emu.changed_rows.Goals as goal
 
 pub loop-b-init : goal.loop-b-init

@@ -2,7 +2,7 @@ use Rattle.std.proofs.Common.{◌++◌, List, ap, ◌∙◌, arith, length, leng
 use Rattle.std.proofs.lemmas.List.{take_rest}
 use Rattle.vt_screen.proofs.Feeds.{runs_on}
 use Rattle.vt_screen.specs.Run.{outs_of_option}
-use Rattle.vt_screen.specs.declared.out.Out.{Out}
+use Rattle.vt_canvas.specs.declared.out.Out.{Out}
 use Rattle.vt_screen.proofs.emu.Emu.feed.Goals as goal
 
 pub loop-at-preserved : goal.loop-at-preserved

@@ -1,7 +1,7 @@
 use Rattle.std.proofs.Common.{◌++◌, List, ap, ◌∙◌, arith}
 use Rattle.vt_screen.proofs.Feeds.{byte_run, runs_on}
 use Rattle.vt_screen.specs.Run.{outs_of_option}
-use Rattle.vt_screen.specs.declared.out.Out.{Out}
+use Rattle.vt_canvas.specs.declared.out.Out.{Out}
 use Rattle.vt_screen.proofs.emu.Emu.feed_plainly.Goals as goal
 
 pub loop-byte-preserved : goal.loop-byte-preserved

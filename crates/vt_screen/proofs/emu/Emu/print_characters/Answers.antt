@@ -4,9 +4,9 @@ use Rattle.std.proofs.lemmas.Bool.Decides.{nat_tests}
 use Rattle.std.proofs.lemmas.List.{length-take-le}
 use Rattle.vt_screen.proofs.Quiet.{quiet_run}
 use Rattle.vt_screen.proofs.Shown.{codes_run}
-use Rattle.vt_screen.specs.Printing.{print_characters}
+use Rattle.vt_canvas.specs.Printing.{print_characters}
 use Rattle.vt_screen.specs.Run.{run_from, with_outs}
-use Rattle.vt_screen.specs.Screen.{Screen}
+use Rattle.vt_canvas.specs.Screen.{Screen}
 use Rattle.vt_units.specs.Rest.{Rest, fresh}
 use Rattle.vt_units.specs.Run.{Reached, make_reached}
 use Rattle.vt_screen.proofs.emu.Emu.print_characters.Goals as goal

@@ -1,6 +1,6 @@
 use Rattle.std.proofs.Common.{◌&&◌, take}
 use Rattle.vt_screen.proofs.Printed.{short_front_runs}
-use Rattle.vt_screen.proofs.Spread.{front_cells_of_characters}
+use Rattle.vt_screen.proofs.Fronts.{front_cells_of_characters}
 use Rattle.vt_units.specs.Bytes.{decodes}
 use Rattle.vt_units.specs.Reading.{is_empty}
 use Rattle.vt_screen.proofs.emu.Emu.print_run.Goals as goal

@@ -3,10 +3,10 @@ use Rattle.std.proofs.lemmas.Bool.{and_parts}
 use Rattle.std.proofs.lemmas.List.{length-take-le}
 use Rattle.vt_screen.proofs.Printed.{empty_is, rest_behind}
 use Rattle.vt_screen.proofs.Quiet.{quiet_run}
-use Rattle.vt_screen.proofs.Scrolled.{behind_some, feeds_run}
-use Rattle.vt_screen.specs.Cursor.{newlines}
+use Rattle.vt_screen.proofs.FeedRuns.{behind_some, feeds_run}
+use Rattle.vt_canvas.specs.Cursor.{newlines}
 use Rattle.vt_screen.specs.Run.{run_from, with_outs}
-use Rattle.vt_screen.specs.Screen.{Screen, mode_of}
+use Rattle.vt_canvas.specs.Screen.{Screen, mode_of}
 use Rattle.vt_units.specs.Bytes.{is_control}
 use Rattle.vt_units.specs.Reading.{is_empty}
 use Rattle.vt_units.specs.Rest.{Rest, fresh}

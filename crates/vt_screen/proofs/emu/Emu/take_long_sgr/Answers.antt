@@ -1,8 +1,8 @@
 use Rattle.std.proofs.Common.{Option, None, sym, subst, ap, ◌∙◌}
 use Rattle.vt_screen.proofs.Sequences.{sequence_run}
 use Rattle.vt_screen.specs.Run.{HasRun}
-use Rattle.vt_screen.specs.Screen.{Screen}
-use Rattle.vt_screen.specs.declared.out.Out.{Out}
+use Rattle.vt_canvas.specs.Screen.{Screen}
+use Rattle.vt_canvas.specs.declared.out.Out.{Out}
 use Rattle.vt_units.specs.ShortSequences.{sgr_in}
 use Rattle.vt_units.specs.Rest.{Rest}
 use Rattle.vt_units.specs.Run.{Reached, make_reached}

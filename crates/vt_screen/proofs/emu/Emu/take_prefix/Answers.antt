@@ -2,7 +2,7 @@ use Rattle.std.proofs.Common.{◌≡◌, ℕ, List, None, [], ◌∷◌, get_or,
 use Rattle.vt_screen.proofs.Feeds.{none_run, take_one}
 use Rattle.vt_screen.proofs.Quiet.{quiet_one}
 use Rattle.vt_screen.specs.Run.{HasRun, run_from}
-use Rattle.vt_screen.specs.Screen.{Screen}
+use Rattle.vt_canvas.specs.Screen.{Screen}
 use Rattle.vt_units.specs.Run.{Reached}
 use Rattle.vt_screen.proofs.emu.Emu.take_prefix.Goals as goal
 

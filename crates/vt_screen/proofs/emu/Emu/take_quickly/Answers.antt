@@ -1,7 +1,7 @@
 use Rattle.std.proofs.Common.{◌≡◌, Bool, [], ◌∷◌, sym, ap, ◌∙◌, if◌then◌else◌}
 use Rattle.vt_screen.proofs.Controls.{control_run}
 use Rattle.vt_screen.specs.Run.{with_outs, outs_of_option, run_from}
-use Rattle.vt_screen.specs.Screen.{Screen}
+use Rattle.vt_canvas.specs.Screen.{Screen}
 use Rattle.vt_units.specs.Rest.{Rest, fresh}
 use Rattle.vt_units.specs.Run.{Reached, make_reached}
 use Rattle.vt_screen.proofs.emu.Emu.take_quickly.Goals as goal

@@ -1,6 +1,6 @@
 use Rattle.std.proofs.Common.{◌≡◌, List, ℕ, Some, sym, ap, ◌∙◌}
 use Rattle.vt_screen.proofs.Sequences.{sequence_run}
-use Rattle.vt_screen.specs.Effect.{effect}
+use Rattle.vt_canvas.specs.Effect.{effect}
 use Rattle.vt_units.specs.WholeSequence.{Sequence, rest_ahead, taken_ahead}
 use Rattle.vt_units.specs.declared.unit.Unit.TheVariants.{Csi, Esc}
 use Rattle.vt_screen.proofs.emu.Emu.take_sequence.Goals as goal

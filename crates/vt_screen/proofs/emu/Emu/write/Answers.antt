@@ -2,7 +2,7 @@ use Rattle.std.proofs.Common.{◌≡◌, ℕ, List, take, drop, sym, ap, ◌∙�
 use Rattle.std.proofs.lemmas.List.{take_rest, take-append-drop}
 use Rattle.vt_screen.proofs.Cuts.{cuts}
 use Rattle.vt_screen.specs.Run.{ScreenAndOuts, after}
-use Rattle.vt_screen.specs.Screen.{Screen}
+use Rattle.vt_canvas.specs.Screen.{Screen}
 use Rattle.vt_units.specs.Run.{Reached, make_reached}
 use Rattle.vt_screen.proofs.emu.Emu.write.Goals as goal
 

@@ -3,7 +3,7 @@ use Rattle.std.proofs.lemmas.List.{take_rest}
 use Rattle.vt_screen.proofs.Feeds.{runs_on}
 use Rattle.vt_screen.proofs.Quiet.{quiet_on}
 use Rattle.vt_screen.specs.Run.{IsQuietBefore, outs_of_option}
-use Rattle.vt_screen.specs.declared.out.Out.{Out}
+use Rattle.vt_canvas.specs.declared.out.Out.{Out}
 use Rattle.vt_screen.proofs.emu.Emu.write_until.Goals as goal
 
 no_outs : (said : Option Out) → is_none said ≡ true → outs_of_option said ≡ []

@@ -4,7 +4,7 @@ use Rattle.vt_screen.proofs.Feeds.{runs_on}
 use Rattle.vt_screen.proofs.Hearing.{hears_both}
 use Rattle.vt_screen.specs.Hearing.{HearsAll}
 use Rattle.vt_screen.specs.Run.{outs_of_option, outs_of_run}
-use Rattle.vt_screen.specs.declared.out.Out.{Out}
+use Rattle.vt_canvas.specs.declared.out.Out.{Out}
 use Rattle.vt_screen.proofs.emu.Emu.write_with.Goals as goal
 
 pub loop-at-preserved : goal.loop-at-preserved

@@ -9,8 +9,8 @@ use Rattle.vt_world.specs.Deeds.{apply_deeds}
 use Rattle.vt_world.specs.State.{WorldState, core_of}
 use Rattle.vt_world.proofs.world.World.allocate.Goals as goal
 
-pub returns-then-allocated : goal.returns-then-allocated
-returns-then-allocated c =
+pub returns-then-allocated-clause-world : goal.returns-then-allocated-clause-world
+returns-then-allocated-clause-world c =
     let inside = c.self.inside in
     let w : WorldState = record {
       rows = inside.size.rows;

@@ -2,7 +2,7 @@ use Rattle.std.proofs.Common.{◌≡◌, ◌≤◌, ℕ, ◌+◌, ◌-◌, ◌*�
 use Rattle.std.proofs.Math.Seq.{take-add}
 use Rattle.std.proofs.lemmas.List.{length-drop, length-take, take_all}
 use Rattle.vt_screen.specs.Asking.{requests}
-use Rattle.vt_screen.specs.declared.out.Out.{Out}
+use Rattle.vt_canvas.specs.declared.out.Out.{Out}
 use Rattle.vt_world.specs.State.{WorldState}
 use Rattle.vt_world.specs.Terminals.{said_of, terminal_at}
 use Rattle.vt_world.proofs.Writes.{asks_few, ran, ran-append, ran-asks}

@@ -1,6 +1,6 @@
 use Rattle.std.proofs.Common.{ap, map, ◌∙◌}
 use Rattle.std.specs.Prelude.{is_some}
-use Rattle.vt_screen.specs.Tape.{palette}
+use Rattle.vt_canvas.specs.Change.{palette}
 use Rattle.vt_world.proofs.Alters.{altered_alike}
 use Rattle.vt_world.proofs.Owners.{alike_world}
 use Rattle.vt_world.proofs.world.World.set_palette.Goals as goal

@@ -1,7 +1,12 @@
-use Rattle.std.proofs.Common.{◌≡◌, ℕ, Option, sym, ap, ◌∙◌}
+use Rattle.std.proofs.Common.{◌≡◌, ℕ, Option, refl, sym, ap, ◌∙◌}
 use Rattle.vt_base.specs.declared.errno.Errno.{Errno}
 use Rattle.vt_events.specs.declared.event.Event.{Event}
+use Rattle.vt_events.specs.declared.event.Event.TheVariants as event
+use Rattle.vt_events.specs.declared.reply.Reply.{Reply}
+use Rattle.vt_events.specs.declared.reply.Reply.TheVariants as reply
+use Rattle.vt_grid.specs.Grid.{GridView}
 use Rattle.vt_world.specs.Heard.{without_marks}
+use Rattle.vt_world.specs.Lent.{grid_after}
 use Rattle.vt_world.specs.State.{Trace, WorldState}
 use Rattle.vt_world.specs.Step.{outcome_of_row, row_result_after, step}
 use Rattle.vt_world.specs.Refusals.{common_refusals, error_of, first_refusal}
@@ -36,3 +41,31 @@ returns-in-Err-clause-step c =
     stepped (the_view c.self.inside) c.args.self.now c.clear.new.self c.args.caller c.args.event.now _
     c.self.view_is c.clear.ensures.marks c.clear.ensures.hops
     (sym (ap error_of c.in-Err.is) ∙ c.may_take.ensures.first)
+
+-- the grid that is left doesn't depend on the trace
+grid_alike : (w : WorldState) (trace : Trace) (p : ℕ) (e : Event) (answer : Reply) (grid : Option GridView)
+    → grid_after (record w { trace = trace }) p e answer grid ≡ grid_after w p e answer grid
+grid_alike w trace p (event.OpenCon n) answer grid = refl
+grid_alike w trace p (event.Activate fd n) answer grid = refl
+grid_alike w trace p (event.Resize fd rows cols) answer grid = refl
+grid_alike w trace p e answer grid = refl
+
+-- a refused call leaves the grid
+grid_kept : (w : WorldState) (p : ℕ) (e : Event) (errno : Errno) (grid : Option GridView)
+    → grid ≡ grid_after w p e (reply.Err errno) grid
+grid_kept w p (event.OpenCon n) errno grid = refl
+grid_kept w p (event.Activate fd n) errno grid = refl
+grid_kept w p (event.Resize fd rows cols) errno grid = refl
+grid_kept w p e errno grid = refl
+
+pub returns-in-Ok-clause-grid : goal.returns-in-Ok-clause-grid
+returns-in-Ok-clause-grid c =
+    let w : WorldState = the_view c.self.inside in
+    c.carry_out-answer.ensures.grid
+    ∙ ap (λ (r : Reply). grid_after (record w { trace = c.clear.new.self }) c.args.caller c.args.event.now r c.args.grid.now)
+    (sym c.finish.ensures.answer)
+    ∙ grid_alike w c.clear.new.self c.args.caller c.args.event.now c.finish.result c.args.grid.now
+    ∙ ap (λ (v : WorldState). grid_after v c.args.caller c.args.event.now c.finish.result c.args.grid.now) c.self.view_is
+
+pub returns-in-Err-clause-grid : goal.returns-in-Err-clause-grid
+returns-in-Err-clause-grid c = grid_kept c.args.self.now c.args.caller c.args.event.now c.in-Err.errno c.args.grid.now

@@ -1,9 +1,0 @@
-use Rattle.example_watch.proofs.Going.{value_more}
-use Rattle.example_watch.specs.Facts.{wait_of}
-use Rattle.example_watch.proofs.facts.waits_of.Goals as goal
-
-pub loop-p-preserved : goal.loop-p-preserved
-loop-p-preserved c =
-    value_more (wait_of c.args.world.now) c.as_slice-all.result.now c.loop-p.p-index c.p-item.result c.loop-p.waits.items
-    c.extend_from_slice.new.self.items _ c.loop-p-test.true c.p-item.is
-    (rw c.wait_of.ensures at c.in_ok-extend_from_slice.ensures.items) c.loop-p.invariant

@@ -1,6 +1,0 @@
-use Rattle.std.proofs.Common.{◌≡◌, ◌++◌, drop, map}
-use Rattle.example_watch.specs.Facts.{wait_of, waits_of}
-use Rattle.example_watch.proofs.facts.waits_of.Given as goal
-
-abbrev pub invariant-loop-p : goal.invariant-loop-p
-invariant-loop-p l = l.waits.items ++ map (wait_of l.world) (drop l.p-index l.all) ≡ waits_of l.world

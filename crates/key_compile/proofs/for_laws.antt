@@ -1,0 +1,2 @@
+pub mod Dumpable
+pub mod Same

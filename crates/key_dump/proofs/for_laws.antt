@@ -1,0 +1,16 @@
+pub mod DumpEntries
+pub mod DumpFaults
+pub mod DumpSays
+pub mod DumpTables
+pub mod EntryLines
+pub mod KeymapsLine
+pub mod NamedWords
+pub mod NextWord
+pub mod PairLines
+pub mod QuotedWords
+pub mod ReadFields
+pub mod ReadsBack
+pub mod RowsSay
+pub mod StringLines
+pub mod Tellings
+pub mod TextRows

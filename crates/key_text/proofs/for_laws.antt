@@ -1,0 +1,16 @@
+pub mod Elsewhere
+pub mod FirstWords
+pub mod HasWords
+pub mod Like
+pub mod LikeFields
+pub mod LikeLines
+pub mod LikeReading
+pub mod Parts
+pub mod PartsRead
+pub mod RowBytes
+pub mod Same
+pub mod SameBytes
+pub mod SameSenses
+pub mod Shorter
+pub mod Spellings
+pub mod WordBytes

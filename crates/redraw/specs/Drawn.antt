@@ -1,0 +1,12 @@
+-- The drawing of the screen that an input makes.
+use Rattle.std.specs.Prelude.{◌≡◌, true, false}
+use Rattle.redraw.specs.declared.drawing.Drawing.{Drawing}
+use Rattle.redraw.specs.declared.drawing.Drawing.TheVariants as drawing
+use Rattle.vt_redraw.specs.Drawable.{is_redrawable}
+use Rattle.vt_redraw.specs.Redraw.{redraw_of}
+use Rattle.vt_canvas.specs.Screen.{Screen}
+
+-- the text that draws the screen again, if it can be drawn; otherwise none
+abbrev pub IsDrawn : Screen → Drawing → Type 0
+IsDrawn s (drawing.Text text) = (is_redrawable s ≡ true) × (text.bytes ≡ redraw_of s)
+IsDrawn s drawing.Refused = is_redrawable s ≡ false

@@ -1,0 +1,16 @@
+-- A `&` to a loan that is read is made of a borrow of it. Assumes `Logic`.
+use denote.Param.Shared.{copy_shared}
+use denote.Struct.Field.{RawPtr-field}
+use denote.Struct.Laws.{RawPtr-copy}
+use denote.Struct.Lending.{of_Lends}
+use Rattle.raw_box.proofs.Lent.{lent_laws, Lends-loan}
+use Rattle.screen_c.proofs.lent_screen.LentScreen.TheLaw.Statement.{statement}
+use Rattle.screen_c.proofs.owned_screen.OwnedScreen.TheLaws as screen
+use Rattle.screen_c.specs.contracts.lent_screen.LentScreen as C
+use Rattle.screen_c.specs.contracts.owned_screen.OwnedScreen as Screen
+
+pub shares : statement
+shares =
+    of_Lends C.struct C.the_codes C.the_heap C.the_lent (λ d p. lent_laws Screen.the_row screen.the_row_laws.shr_laws d.at d.value)
+    (copy_shared RawPtr-field RawPtr-copy, tt)
+    (λ M 𝓤 𝓛 d p. Lends-loan 𝓛 Screen.the_row screen.the_row_laws.shr_laws C.the_row.lives d.at d.value d.life d.part)

@@ -1,0 +1,5 @@
+pub mod Callers
+pub mod Lively
+pub mod Meant
+pub mod Orders
+pub mod Progress

@@ -1,0 +1,5 @@
+pub mod OneHook
+pub mod OneItem
+pub mod OneResult
+pub mod OneSession
+pub mod Waits

@@ -1,0 +1,5 @@
+mod Fours
+mod Prefixes
+mod Scrolled
+mod Spread
+mod Start

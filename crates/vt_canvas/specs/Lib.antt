@@ -1,0 +1,9 @@
+pub mod Change
+pub mod Cursor
+pub mod Effect
+pub mod Erasing
+pub mod Kept
+pub mod Printing
+pub mod Saying
+pub mod Screen
+pub mod Settings

@@ -1,6 +1,0 @@
-use Rattle.std.proofs.Common.{◌≡◌, drop}
-use Rattle.vt_screen.specs.Settings.{each, with_mode}
-use Rattle.vt_screen.proofs.canvas.Canvas.set_modes.Given as goal
-
-abbrev pub invariant-loop-n : goal.invariant-loop-n
-invariant-loop-n l = each (with_mode l.on) (drop l.n-index l.numbers) l.self ≡ each (with_mode l.on) l.numbers l.fn.self

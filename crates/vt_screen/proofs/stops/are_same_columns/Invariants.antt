@@ -1,6 +1,0 @@
-use Rattle.std.proofs.Common.{◌≡◌, take}
-use Rattle.vt_screen.proofs.stops.are_same_columns.Given as goal
-
--- the first i columns are the same
-abbrev pub invariant-loop-i : goal.invariant-loop-i
-invariant-loop-i l = take l.i l.columns ≡ take l.i l.others

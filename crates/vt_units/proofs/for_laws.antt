@@ -1,0 +1,5 @@
+mod Broken
+pub mod Completes
+pub mod Cutting
+pub mod Drops
+pub mod Prints

@@ -1,0 +1,29 @@
+"""Programs on a proved Linux text console, for tests and for terminals.
+
+    from libvt import Terminal
+
+    with Terminal("less -M numbers", rows=6, cols=40) as less:
+        less.type("<Space>")
+        assert less.screen.rows[0] == "6"
+
+`Terminal` runs a program on a terminal. `Screen` and `Keyboard` are the calls of the C library libvt, which vt(3)
+describes. The pytest plugin is `pytest_libvt`. `python3 -m libvt.expect` runs test files, `python3 -m libvt.record`
+records a program, and `python3 -m libvt.animation` draws a recording as a moving picture.
+"""
+from .calls import (
+    COLOURS, ESCPREFIX, HALF, LIGHTS_FOLLOW, MEDIUMRAW, METABIT, OFF, RAW, UNICODE, XLATE, Attention, Bell, Cell,
+    Closed, Cursor, Error, Event, Keyboard, KeymapFault, KeyState, LibraryError, Lights, Modes, NoMemory, NotDrawable,
+    OutOfRange, Report, Screen, Settings, Spawn, SwitchLast, SwitchNext, SwitchPrevious, SwitchTo, Typed,
+)  # fmt: skip
+from .environment import settings_of
+from .shown import Mask, Place, Shown
+from .terminal import Failed, Terminal
+
+__all__ = [
+    "COLOURS", "ESCPREFIX", "HALF", "LIGHTS_FOLLOW", "MEDIUMRAW", "METABIT", "OFF", "RAW", "UNICODE", "XLATE",
+    "Attention", "Bell", "Cell", "Closed", "Cursor", "Error", "Event", "Failed", "Keyboard", "KeymapFault", "KeyState",
+    "LibraryError", "Lights", "Mask", "Modes", "NoMemory", "NotDrawable", "OutOfRange", "Place", "Report", "Screen",
+    "Settings", "Shown", "Spawn", "SwitchLast", "SwitchNext", "SwitchPrevious", "SwitchTo", "Terminal", "Typed",
+    "settings_of",
+]  # fmt: skip
+__version__ = "1.0.0"

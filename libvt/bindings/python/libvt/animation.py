@@ -1,0 +1,244 @@
+#!/usr/bin/env python3
+"""Draws an asciinema recording as one moving picture in SVG, without a script, or one moment of it as a still picture.
+
+usage: python3 -m libvt.animation [--at S | --pause S --rate N] [--size R C] [--out FILE] FILE.cast
+
+The cells of each frame are drawn by the program `picture` (libvt.pictures). Each row is a strip of all its states, one
+below the other, of which one is seen at a time; keyframes of CSS move the strips. Between two states is an empty row,
+since letters may be higher than a row. Output that is less than 1/N seconds apart (20) is one frame. A pause is at most
+S seconds long (2), and so is the one at the end. A viewer that reduces motion shows the last frame.
+
+--at S prints the still picture of the screen S seconds after the start of the recording. --size has the rows and
+columns of a recording that doesn't have them. Statuses: 0 the picture was written; 1 the words or the recording aren't
+of the form, or a file can't be read or written; 2 the program picture isn't there, or failed.
+"""
+from __future__ import annotations
+
+import argparse
+import re
+import sys
+from typing import Iterator, NamedTuple, NoReturn
+
+from .calls import NotDrawable, OutOfRange, Screen
+from .casts import BadCast, Cast, read_cast
+from .expect_values import seconds
+from .expect_values import size as size_of
+from .pictures import NoPicture, picture_of
+from .record import Stop, read_text, write_bytes
+from .terminal import Event
+
+PROGRAM = "animation.py"
+CELL = 8
+# An element of a picture, with its place.
+ELEMENT = re.compile(r"<(rect|text) x='([0-9]+)' y='([0-9]+)'(?: width='[0-9]+' height='([0-9]+)' fill='([^']+)')?")
+STILL = "@media(prefers-reduced-motion:reduce){g{animation:none!important}}"
+
+
+class Cursor(NamedTuple):
+    """The cursor of a picture: its column and row in pixels, and its colour."""
+
+    x: int
+    y: int
+    fill: str
+
+
+class Frame(NamedTuple):
+    """A frame: its moment, its size in rows and columns, the height of a row in pixels, its rows as they are drawn at
+    the top of a picture, the cursor, and the first element and the style of the picture."""
+
+    moment: float
+    size: tuple[int, int]
+    height: int
+    rows: list[str]
+    cursor: Cursor | None
+    head: str
+    style: str
+
+
+def moved(line: str, pixels: int) -> str:
+    """An element that is lower by so many pixels."""
+    return re.sub(r" y='([0-9]+)'", lambda match: f" y='{int(match[1]) + pixels}'", line, count=1)
+
+
+def frame_of(moment: float, picture: str, size: tuple[int, int]) -> Frame:
+    """A frame, from the picture of a screen."""
+    found = re.search(r" height='([0-9]+)'>\n", picture)
+    height = int(found[1]) // size[0] if found else 15
+    rows, cursor = [""] * size[0], None
+    for line in picture.split("\n"):
+        element = ELEMENT.match(line)
+        if element is None:
+            continue
+        x, y = int(element[2]), int(element[3])
+        row = y // height
+        if element[1] == "rect" and int(element[4] or height) < height:
+            cursor = Cursor(x, row * height, element[5])
+        else:
+            rows[row] += moved(line, -row * height) + "\n"
+    style = re.search(r"<style>(.*)</style>", picture)
+    return Frame(moment, size, height, rows, cursor, picture.partition("\n")[0], style[1] if style else "")
+
+
+def bursts(events: list[Event], rate: float) -> Iterator[list[Event]]:
+    """The output and the sizes of a recording, in groups that are one frame each."""
+    group: list[Event] = []
+    for event in events:
+        if event.kind in ("o", "r"):
+            if group and event.seconds - group[0].seconds > 1 / rate:
+                yield group
+                group = []
+            group.append(event)
+    if group:
+        yield group
+
+
+class Player:
+    """The screen of a recording."""
+
+    def __init__(self, cast: Cast) -> None:
+        self.screen = Screen(cast.rows, cast.columns)
+        self.stream = b""
+
+    def take(self, event: Event) -> None:
+        """Draws output, or takes another size."""
+        if event.kind == "o":
+            self.screen.write(event.text)
+            self.stream += event.text
+        else:
+            cols, _, rows = event.text.decode("utf-8", "replace").partition("x")
+            if rows.isdigit() and cols.isdigit():
+                self.screen.resize(int(rows), int(cols))
+
+    def picture(self) -> str:
+        """The picture of the screen."""
+        try:
+            text = self.screen.redraw()
+        except NotDrawable:
+            text = self.stream
+        return picture_of(text, *self.screen.size)
+
+
+def frames_of(cast: Cast, rate: float, pause: float) -> list[Frame]:
+    """The frames of a recording, from the moment 0 on."""
+    player, frames, clock, last = Player(cast), [], 0.0, 0.0
+    for group in bursts(cast.events, rate):
+        if frames:
+            clock += min(pause, group[0].seconds - last)
+        last = group[0].seconds
+        for event in group:
+            player.take(event)
+        frames.append(frame_of(clock, player.picture(), player.screen.size))
+    return frames or [frame_of(0.0, player.picture(), player.screen.size)]
+
+
+def still(cast: Cast, moment: float) -> str:
+    """The picture of the screen at a moment."""
+    player = Player(cast)
+    for event in cast.events:
+        if event.seconds <= moment and event.kind in ("o", "r"):
+            player.take(event)
+    return player.picture()
+
+
+def keyframes(name: str, steps: list[tuple[float, str]], whole: float) -> str:
+    """An animation in CSS: what holds from each moment on."""
+    rules = "".join(f"{100 * moment / whole:.4g}%{{{rule}}}" for moment, rule in steps)
+    return f"@keyframes {name}{{{rules}}}#{name}{{animation:{name} {whole:.2f}s step-end infinite}}\n"
+
+
+def steps_of(values: list[tuple[float, str]]) -> list[tuple[float, str]]:
+    """The moments at which a value changes."""
+    return [step for i, step in enumerate(values) if not i or step[1] != values[i - 1][1]]
+
+
+def strip(row: int, frames: list[Frame], whole: float) -> tuple[str, str]:
+    """A row of the moving picture: its style and its elements."""
+    height = frames[0].height
+    numbers: dict[str, int] = {}
+    shifts = []
+    for frame in frames:
+        drawn = frame.rows[row] if row < len(frame.rows) else ""
+        number = numbers.setdefault(drawn, len(numbers))
+        shifts.append((frame.moment, f"transform:translateY({-2 * height * number}px)"))
+    elements = "".join(
+        moved(line, 2 * height * number) + "\n" for drawn, number in numbers.items() for line in drawn.splitlines())
+    width = CELL * max(frame.size[1] for frame in frames)
+    if len(numbers) == 1:
+        return "", f"<g transform='translate(0 {height * row})'>\n{elements}</g>\n"
+    head = f"<svg y='{height * row}' width='{width}' height='{height}'><g id='r{row}' style='{shifts[-1][1]}'>"
+    return keyframes(f"r{row}", steps_of(shifts), whole), f"{head}\n{elements}</g></svg>\n"
+
+
+def cursor_rule(frame: Frame) -> str:
+    """The style of the cursor in a frame."""
+    if frame.cursor is None:
+        return "visibility:hidden"
+    x, y, fill = frame.cursor
+    return f"fill:{fill};transform:translate({x}px,{y}px);visibility:visible"
+
+
+def animation(frames: list[Frame], pause: float) -> str:
+    """The moving picture of frames."""
+    rows, columns = (max(frame.size[side] for frame in frames) for side in (0, 1))
+    height, whole = frames[0].height, frames[-1].moment + pause
+    strips = [strip(row, frames, whole) for row in range(rows)]
+    rules = [(frame.moment, cursor_rule(frame)) for frame in frames]
+    styles = "".join(style for style, _ in strips) + keyframes("c", steps_of(rules), whole)
+    cursor = f"<g id='c' style='{rules[-1][1]}'><rect y='{height - 2}' width='{CELL}' height='2'/></g>\n"
+    head = re.sub(r" width='.*", f" width='{CELL * columns}' height='{height * rows}'>", frames[0].head)
+    drawn = "".join(elements for _, elements in strips)
+    return (
+        f"{head}\n<title>A recording on a screen of {rows} rows and {columns} columns</title>\n"
+        f"<desc>{len(frames)} frames of a text console in {whole:.1f} seconds.</desc>\n"
+        f"<style>{frames[0].style}{styles}{STILL}</style>\n{drawn}{cursor}</svg>\n")
+
+
+class Words(argparse.ArgumentParser):
+    """The words of the command line; words that aren't of the form end with status 1."""
+
+    def error(self, message: str) -> NoReturn:
+        raise Stop(1, f"{message}; {PROGRAM} --help has the form")
+
+
+def run(words: list[str]) -> int:
+    """Draws a recording."""
+    form = Words(prog=PROGRAM, description=__doc__, formatter_class=argparse.RawDescriptionHelpFormatter)
+    for name, default in (("--at", None), ("--pause", "2"), ("--rate", "20")):
+        form.add_argument(name, metavar="S", default=default)
+    form.add_argument("--size", nargs=2, metavar=("R", "C"))
+    form.add_argument("--out", metavar="FILE")
+    form.add_argument("file", metavar="FILE.cast")
+    given = form.parse_args(words)
+    try:
+        pause, rate = seconds(given.pause), max(0.1, seconds(given.rate))
+        cast = read_cast(read_text(given.file))
+        if given.size:
+            rows, columns = size_of(" ".join(given.size))
+            cast = cast._replace(rows=rows, columns=columns)
+        if not cast.rows:
+            raise Stop(1, f"{given.file}: the recording has no rows and columns from 1 to 255; --size R C has them")
+        drawn = animation(frames_of(cast, rate, pause), max(pause, 0.1)) if given.at is None else still(
+            cast, seconds(given.at))
+    except BadCast as fault:
+        raise Stop(1, f"{given.file}:{fault.line}: {fault}") from None
+    except (ValueError, OutOfRange) as fault:
+        raise Stop(1, str(fault)) from None
+    except NoPicture as fault:
+        raise Stop(2, str(fault)) from None
+    write_bytes(given.out, drawn.encode())
+    return 0
+
+
+def main() -> int:
+    try:
+        return run(sys.argv[1:])
+    except Stop as stop:
+        print(f"{PROGRAM}: {stop}", file=sys.stderr)
+        return stop.status
+    except KeyboardInterrupt:
+        print(f"{PROGRAM}: interrupted", file=sys.stderr)
+        return 1
+
+
+if __name__ == "__main__":
+    sys.exit(main())

@@ -1,0 +1,2 @@
+"""The plugin's own tests need pytester."""
+pytest_plugins = ["pytester"]

@@ -1,0 +1,265 @@
+//! The calls of libvt as C has them; vt.h and vt(3) describe each. `vt-screen` has safe types over them.
+#![no_std]
+#![allow(non_camel_case_types)]
+
+use core::ffi::c_void;
+
+/// The version of vt.h that this file follows.
+pub const VT_VERSION: u32 = 0x01_00_00;
+
+pub const VT_OK: u8 = 0;
+pub const VT_MADE: u8 = 1;
+pub const VT_RANGE: u8 = 2;
+pub const VT_NO_MEMORY: u8 = 3;
+pub const VT_NOTHING: u8 = 4;
+pub const VT_NO_ROOM: u8 = 5;
+pub const VT_FAULT: u8 = 6;
+pub const VT_NOT_DRAWABLE: u8 = 7;
+
+pub const VT_REPORT: u8 = 1;
+pub const VT_SWITCH_TO: u8 = 2;
+pub const VT_SWITCH_LAST: u8 = 3;
+pub const VT_LIGHTS: u8 = 4;
+pub const VT_BELL: u8 = 5;
+
+pub const VT_HALF: u32 = 0x11_0000;
+pub const VT_FONT: u32 = 0xF000;
+
+pub const VT_RAW: u8 = 0;
+pub const VT_XLATE: u8 = 1;
+pub const VT_MEDIUMRAW: u8 = 2;
+pub const VT_UNICODE: u8 = 3;
+pub const VT_OFF: u8 = 4;
+
+pub const VT_METABIT: u8 = 3;
+pub const VT_ESCPREFIX: u8 = 4;
+
+pub const VT_SCROLL_LOCK: u8 = 1;
+pub const VT_NUM_LOCK: u8 = 2;
+pub const VT_CAPS_LOCK: u8 = 4;
+pub const VT_LIGHTS_FOLLOW: u8 = 255;
+
+pub const VT_KEY_NOTHING: u8 = 0;
+pub const VT_KEY_BYTES: u8 = 1;
+pub const VT_KEY_SWITCH: u8 = 2;
+pub const VT_KEY_LAST: u8 = 3;
+pub const VT_KEY_NEXT: u8 = 4;
+pub const VT_KEY_PREV: u8 = 5;
+pub const VT_KEY_SPAWN: u8 = 6;
+pub const VT_KEY_ATTENTION: u8 = 7;
+
+pub const VT_ACTION_NO_TABLE: u16 = 14;
+
+#[repr(C)]
+pub struct vt_screen {
+    pub at: *mut c_void,
+}
+
+#[repr(C)]
+#[derive(Clone, Copy, Default)]
+pub struct vt_out {
+    pub kind: u8,
+    pub length: u8,
+    pub number: u16,
+    pub text: [u8; 16],
+    pub spare: [u32; 3],
+}
+
+#[repr(C)]
+#[derive(Clone, Copy, Default)]
+pub struct vt_fed {
+    pub taken: usize,
+    pub outs: usize,
+    pub spare: [usize; 2],
+}
+
+#[repr(C)]
+#[derive(Clone, Copy, Default)]
+pub struct vt_cell {
+    pub code: u32,
+    pub attr: u8,
+    pub spare: [u8; 3],
+}
+
+#[repr(C)]
+#[derive(Clone, Copy)]
+pub struct vt_modes {
+    pub cursor_keys: u8,
+    pub keypad: u8,
+    pub repeat: u8,
+    pub newline_mode: u8,
+    pub spare: [u8; 4],
+}
+
+impl Default for vt_modes {
+    /// `VT_MODES_START`.
+    fn default() -> vt_modes {
+        vt_modes { cursor_keys: 0, keypad: 0, repeat: 1, newline_mode: 0, spare: [0; 4] }
+    }
+}
+
+#[repr(C)]
+#[derive(Clone, Copy, Default)]
+pub struct vt_state {
+    pub rows: u16,
+    pub cols: u16,
+    pub y: u16,
+    pub x: u16,
+    pub visible: u8,
+    pub reverse: u8,
+    pub origin: u8,
+    pub autowrap: u8,
+    pub insert: u8,
+    pub controls: u8,
+    pub modes: vt_modes,
+    pub spare: [u8; 10],
+}
+
+#[repr(C)]
+#[derive(Clone, Copy, Default)]
+pub struct vt_colour {
+    pub red: u8,
+    pub green: u8,
+    pub blue: u8,
+    pub spare: u8,
+}
+
+#[repr(C)]
+pub struct vt_keys {
+    pub at: *mut c_void,
+}
+
+#[repr(C)]
+#[derive(Clone, Copy, Default)]
+pub struct vt_fault {
+    pub line: u32,
+    pub column: u32,
+    pub kind: u32,
+    pub spare: u32,
+}
+
+#[repr(C)]
+#[derive(Clone, Copy)]
+pub struct vt_text {
+    pub name: *const u8,
+    pub name_length: usize,
+    pub text: *const u8,
+    pub text_length: usize,
+}
+
+#[repr(C)]
+#[derive(Clone, Copy)]
+pub struct vt_key_state {
+    pub mode: u8,
+    pub meta: u8,
+    pub flags: u8,
+    pub defaults: u8,
+    pub lights: u8,
+    pub locks: u8,
+    pub sticky: u8,
+    pub spare: [u8; 9],
+}
+
+impl Default for vt_key_state {
+    /// `VT_KEY_STATE_START`.
+    fn default() -> vt_key_state {
+        vt_key_state {
+            mode: VT_UNICODE,
+            meta: VT_ESCPREFIX,
+            flags: 0,
+            defaults: 0,
+            lights: VT_LIGHTS_FOLLOW,
+            locks: 0,
+            sticky: 0,
+            spare: [0; 9],
+        }
+    }
+}
+
+#[repr(C)]
+#[derive(Clone, Copy)]
+pub struct vt_key {
+    pub kind: u8,
+    pub spare: u8,
+    pub length: u16,
+    pub number: u32,
+    pub bytes: [u8; 512],
+}
+
+#[repr(C)]
+#[derive(Clone, Copy, Debug, Default, PartialEq, Eq)]
+pub struct vt_action {
+    pub kind: u16,
+    pub value: u16,
+}
+
+#[repr(C)]
+#[derive(Clone, Copy, Debug, Default, PartialEq, Eq)]
+pub struct vt_pair {
+    pub accent: u32,
+    pub base: u32,
+    pub result: u32,
+}
+
+extern "C" {
+    pub fn vt_version() -> u32;
+
+    pub fn vt_screen_new(s: *mut vt_screen, rows: u32, cols: u32) -> u8;
+    pub fn vt_screen_free(s: *mut vt_screen);
+    pub fn vt_screen_feed(
+        s: *mut vt_screen,
+        bytes: *const u8,
+        n: usize,
+        outs: *mut vt_out,
+        room: usize,
+        fed: *mut vt_fed,
+    ) -> u8;
+    pub fn vt_screen_write(s: *mut vt_screen, bytes: *const u8, n: usize) -> u8;
+    pub fn vt_screen_resize(s: *mut vt_screen, rows: u32, cols: u32) -> u8;
+    pub fn vt_screen_state(s: *const vt_screen, state: *mut vt_state) -> u8;
+    pub fn vt_screen_cell(s: *const vt_screen, row: u32, col: u32, cell: *mut vt_cell) -> u8;
+    pub fn vt_screen_row(s: *const vt_screen, row: u32, cells: *mut vt_cell, room: usize) -> u8;
+    pub fn vt_screen_row_text(s: *const vt_screen, row: u32, text: *mut u8, room: usize, length: *mut usize) -> u8;
+    pub fn vt_screen_mark(s: *mut vt_screen) -> u8;
+    pub fn vt_screen_changed(s: *const vt_screen, rows: *mut u8, room: usize) -> u8;
+    pub fn vt_screen_palette(s: *const vt_screen, colours: *mut vt_colour, room: usize) -> u8;
+    pub fn vt_screen_set_colour(s: *mut vt_screen, number: u32, red: u8, green: u8, blue: u8) -> u8;
+    pub fn vt_screen_set_user(s: *mut vt_screen, words: *const u16) -> u8;
+    pub fn vt_screen_redraw(s: *const vt_screen, text: *mut u8, room: usize, length: *mut usize) -> u8;
+    pub fn vt_screen_redraw_changes(s: *const vt_screen, text: *mut u8, room: usize, length: *mut usize) -> u8;
+    pub fn vt_screen_picture(s: *const vt_screen, text: *mut u8, room: usize, length: *mut usize) -> u8;
+
+    pub fn vt_keys_new(
+        k: *mut vt_keys,
+        text: *const u8,
+        n: usize,
+        texts: *const vt_text,
+        count: usize,
+        fault: *mut vt_fault,
+    ) -> u8;
+    pub fn vt_keys_free(k: *mut vt_keys);
+    pub fn vt_keys_scan(
+        k: *mut vt_keys,
+        byte: u8,
+        modes: *const vt_modes,
+        state: *mut vt_key_state,
+        key: *mut vt_key,
+    ) -> u8;
+    pub fn vt_keys_key(
+        k: *mut vt_keys,
+        keycode: u32,
+        is_down: u8,
+        modes: *const vt_modes,
+        state: *mut vt_key_state,
+        key: *mut vt_key,
+    ) -> u8;
+    pub fn vt_keys_release(k: *mut vt_keys) -> u8;
+    pub fn vt_keys_string(k: *const vt_keys, number: u32, text: *mut u8, room: usize, length: *mut usize) -> u8;
+    pub fn vt_keys_set_string(k: *mut vt_keys, number: u32, text: *const u8, n: usize) -> u8;
+    pub fn vt_keys_entry(k: *const vt_keys, table: u32, keycode: u32, action: *mut vt_action) -> u8;
+    pub fn vt_keys_set_entry(k: *mut vt_keys, table: u32, keycode: u32, action: *const vt_action) -> u8;
+    pub fn vt_keys_keycode(k: *const vt_keys, scan: u32, keycode: *mut u32) -> u8;
+    pub fn vt_keys_set_keycode(k: *mut vt_keys, scan: u32, keycode: u32) -> u8;
+    pub fn vt_keys_pairs(k: *const vt_keys, pairs: *mut vt_pair, room: usize, count: *mut usize) -> u8;
+    pub fn vt_keys_set_pairs(k: *mut vt_keys, pairs: *const vt_pair, count: usize) -> u8;
+}

@@ -1,0 +1,15 @@
+#ifndef DRAW_H
+#define DRAW_H
+
+#include <stdbool.h>
+#include <vt.h>
+
+/* Takes the terminal on standard output for drawing; the colours of the screen at the first time are the terminal's own.
+ * The other call gives the terminal back as it was. */
+void begin_drawing(const struct vt_screen *screen);
+void end_drawing(void);
+
+/* Draws the rows that changed since the last time, or all of them, and the cursor. False: a write failed. */
+bool draw_screen(struct vt_screen *screen, bool is_whole);
+
+#endif

@@ -1,0 +1,394 @@
+/* Each code of each call on a screen, by the rules of vt.h. What the handle has is compared before and after a
+ * refusal. */
+#include "want.h"
+
+/* Texts, the screens of console_codes(4) and ECMA-48 that they must leave, and what they must ask for. */
+static const uint8_t TEXT[] = "ab\033[31mc\033[2;3H\xC3\xA9\xE4\xB8\xAD";
+enum { ROWS = 3, COLS = 6 };
+
+/* What a screen has, all of it that the calls show. */
+struct picture {
+    struct vt_state state;
+    struct vt_cell cells[255][255];
+    struct vt_colour colours[16];
+};
+
+/* Whether a text of C, without null bytes, is drawn. */
+static bool drawn(struct vt_screen *s, const char *text)
+{
+    return vt_screen_write(s, (const uint8_t *)text, strlen(text)) == VT_OK;
+}
+
+static void take(struct vt_screen *s, struct picture *p)
+{
+    memset(p, 0, sizeof *p);
+    WANT(vt_screen_state(s, &p->state) == VT_OK);
+    for (uint32_t y = 0; y < p->state.rows; y++)
+        WANT(vt_screen_row(s, y, p->cells[y], 255) == VT_OK);
+    WANT(vt_screen_palette(s, p->colours, 16) == VT_OK);
+}
+
+/* Whether a colour of the screen has these parts. */
+static bool is_colour(const struct vt_screen *s, uint32_t number, uint8_t red, uint8_t green, uint8_t blue)
+{
+    struct vt_colour colours[16];
+    WANT(vt_screen_palette(s, colours, 16) == VT_OK);
+    struct vt_colour c = colours[number];
+    return c.red == red && c.green == green && c.blue == blue && c.spare == 0;
+}
+
+static bool is_same_cell(struct vt_cell a, struct vt_cell b)
+{
+    return a.code == b.code && a.attr == b.attr;
+}
+
+static bool is_same(const struct picture *a, const struct picture *b)
+{
+    bool is_so = memcmp(&a->state, &b->state, sizeof a->state) == 0 &&
+                 memcmp(a->colours, b->colours, sizeof a->colours) == 0;
+    for (int y = 0; is_so && y < a->state.rows; y++)
+        for (int x = 0; is_so && x < a->state.cols; x++)
+            is_so = is_same_cell(a->cells[y][x], b->cells[y][x]);
+    return is_so;
+}
+
+static struct picture before, after;
+
+/* A call that must leave the screen as it is. */
+#define LEAVES(s, call, code)                                                                                          \
+    do {                                                                                                               \
+        take((s), &before);                                                                                            \
+        WANT((call) == (code));                                                                                        \
+        take((s), &after);                                                                                             \
+        WANT(is_same(&before, &after));                                                                                \
+    } while (0)
+
+static void try_nothing(struct vt_screen *s)
+{
+    struct vt_fed fed = { 7, 7, { 7, 7 } };
+    struct vt_out out = { .kind = 9 };
+    struct vt_state state = { .rows = 9 };
+    struct vt_cell cell = { 9, 9, { 9, 9, 9 } };
+    struct vt_colour colour = { 9, 9, 9, 9 };
+    uint8_t text[4] = { 9, 9, 9, 9 };
+    size_t length = 9;
+    uint8_t changed = 9;
+    static const uint16_t words[256];
+    WANT(vt_screen_feed(s, TEXT, sizeof TEXT, &out, 1, &fed) == VT_NOTHING);
+    WANT(fed.taken == 7 && fed.outs == 7 && out.kind == 9);
+    WANT(vt_screen_write(s, TEXT, sizeof TEXT) == VT_NOTHING);
+    WANT(vt_screen_state(s, &state) == VT_NOTHING && state.rows == 9);
+    WANT(vt_screen_cell(s, 0, 0, &cell) == VT_NOTHING && cell.code == 9 && cell.attr == 9);
+    WANT(vt_screen_row(s, 0, &cell, 1) == VT_NOTHING && cell.code == 9);
+    WANT(vt_screen_row_text(s, 0, text, 4, &length) == VT_NOTHING && length == 9 && text[0] == 9);
+    WANT(vt_screen_mark(s) == VT_NOTHING);
+    WANT(vt_screen_changed(s, &changed, 1) == VT_NOTHING && changed == 9);
+    WANT(vt_screen_resize(s, 4, 4) == VT_NOTHING);
+    WANT(vt_screen_palette(s, &colour, 1) == VT_NOTHING && colour.red == 9);
+    WANT(vt_screen_set_colour(s, 0, 1, 2, 3) == VT_NOTHING);
+    WANT(vt_screen_set_user(s, words) == VT_NOTHING);
+    WANT(vt_screen_redraw(s, text, 4, &length) == VT_NOTHING && length == 9);
+    WANT(vt_screen_redraw_changes(s, text, 4, &length) == VT_NOTHING && length == 9);
+    WANT(vt_screen_picture(s, text, 4, &length) == VT_NOTHING && length == 9);
+    vt_screen_free(s);
+    WANT(s->at == NULL);
+}
+
+static void try_making(void)
+{
+    static const uint32_t bad[] = { 0, 256, 257, 65536, 65537, UINT32_MAX, 1u << 31 };
+    struct vt_screen s = { 0 };
+    try_nothing(&s);
+    for (size_t i = 0; i < sizeof bad / sizeof *bad; i++) {
+        WANT(vt_screen_new(&s, bad[i], 80) == VT_RANGE && s.at == NULL);
+        WANT(vt_screen_new(&s, 25, bad[i]) == VT_RANGE && s.at == NULL);
+    }
+    for (uint32_t rows = 1; rows < 256; rows += 127)
+        for (uint32_t cols = 1; cols < 256; cols += 127) {
+            struct vt_state state;
+            WANT(vt_screen_new(&s, rows, cols) == VT_OK);
+            WANT(vt_screen_state(&s, &state) == VT_OK && state.rows == rows && state.cols == cols);
+            WANT(state.y == 0 && state.x == 0 && state.visible);
+            WANT(!state.reverse && !state.modes.cursor_keys && !state.modes.keypad && !state.modes.newline_mode);
+            WANT(!state.origin && state.autowrap && !state.insert && !state.controls && state.modes.repeat);
+            vt_screen_free(&s);
+        }
+    try_nothing(&s); /* a freed handle is one that was never made */
+}
+
+static void try_screen(void)
+{
+    static const uint8_t row_0[] = "abc   ", row_1[] = "  \xC3\xA9\xE4\xB8\xAD ";
+    struct vt_screen s = { 0 };
+    struct vt_cell cell, cells[8] = { [6] = { 9, 9, { 9 } }, [7] = { 9, 9, { 9 } } };
+    struct vt_state state;
+    uint8_t text[24];
+    size_t length;
+    WANT(vt_screen_new(&s, ROWS, COLS) == VT_OK);
+    LEAVES(&s, vt_screen_new(&s, ROWS, COLS), VT_MADE);
+    LEAVES(&s, vt_screen_new(&s, 0, 0), VT_MADE);
+    WANT(vt_screen_write(&s, TEXT, sizeof TEXT - 1) == VT_OK);
+    WANT(vt_screen_state(&s, &state) == VT_OK && state.y == 1 && state.x == 5);
+    WANT(vt_screen_cell(&s, 0, 0, &cell) == VT_OK && cell.code == 'a' && cell.attr == 7);
+    WANT(vt_screen_cell(&s, 0, 2, &cell) == VT_OK && cell.code == 'c' && cell.attr == 4); /* red is VGA's 4 */
+    WANT(vt_screen_cell(&s, 1, 2, &cell) == VT_OK && cell.code == 0xE9);
+    WANT(vt_screen_cell(&s, 1, 3, &cell) == VT_OK && cell.code == 0x4E2D);
+    WANT(vt_screen_cell(&s, 1, 4, &cell) == VT_OK && cell.code == VT_HALF);
+    LEAVES(&s, vt_screen_cell(&s, ROWS, 0, &cell), VT_RANGE);
+    LEAVES(&s, vt_screen_cell(&s, 0, COLS, &cell), VT_RANGE);
+    LEAVES(&s, vt_screen_cell(&s, UINT32_MAX, UINT32_MAX, &cell), VT_RANGE);
+    WANT(vt_screen_cell(&s, 256, 0, &cell) == VT_RANGE && vt_screen_cell(&s, 0, 256, &cell) == VT_RANGE);
+    WANT(vt_screen_row(&s, 0, cells, 8) == VT_OK && cells[1].code == 'b' && cells[5].code == ' ');
+    WANT(cells[6].code == 9 && cells[7].code == 9);
+    cells[2].code = 9;
+    WANT(vt_screen_row(&s, 0, cells, 2) == VT_OK && cells[1].code == 'b' && cells[2].code == 9);
+    WANT(vt_screen_row(&s, 0, cells, 0) == VT_OK && cells[0].code == 'a');
+    LEAVES(&s, vt_screen_row(&s, ROWS, cells, 8), VT_RANGE);
+    WANT(vt_screen_row(&s, 256, cells, 8) == VT_RANGE);
+    WANT(vt_screen_row_text(&s, 0, text, sizeof text, &length) == VT_OK);
+    WANT(length == sizeof row_0 - 1 && memcmp(text, row_0, length) == 0);
+    WANT(vt_screen_row_text(&s, 1, text, sizeof row_1 - 1, &length) == VT_OK);
+    WANT(length == sizeof row_1 - 1 && memcmp(text, row_1, length) == 0);
+    memset(text, 9, sizeof text);
+    LEAVES(&s, vt_screen_row_text(&s, 1, text, sizeof row_1 - 2, &length), VT_NO_ROOM);
+    WANT(length == sizeof row_1 - 1 && text[0] == 9);
+    WANT(vt_screen_row_text(&s, 1, text, 0, &length) == VT_NO_ROOM && length == sizeof row_1 - 1 && text[0] == 9);
+    length = 9;
+    LEAVES(&s, vt_screen_row_text(&s, ROWS, text, sizeof text, &length), VT_RANGE);
+    WANT(length == 9);
+    vt_screen_free(&s);
+    vt_screen_free(&s);
+    WANT(s.at == NULL);
+}
+
+static void try_feeding(void)
+{
+    /* A BEL, a report of the status (DSR 5), of the cursor (DSR 6), of the terminal (DA), lights and two switches. */
+    static const uint8_t asking[] = "x\a\033[5n\033[6n\033[c\033[2q\033[12;7]\033[15]y";
+    struct vt_screen s = { 0 };
+    struct vt_out outs[9];
+    struct vt_fed fed;
+    memset(outs, 9, sizeof outs);
+    WANT(vt_screen_new(&s, 2, 9) == VT_OK);
+    WANT(vt_screen_feed(&s, asking, sizeof asking - 1, outs, 9, &fed) == VT_OK);
+    WANT(fed.taken == sizeof asking - 1 && fed.outs == 7);
+    WANT(outs[0].kind == VT_BELL);
+    WANT(outs[1].kind == VT_REPORT && outs[1].length == 4 && memcmp(outs[1].text, "\033[0n", 4) == 0);
+    WANT(outs[2].kind == VT_REPORT && outs[2].length == 6 && memcmp(outs[2].text, "\033[1;2R", 6) == 0);
+    WANT(outs[3].kind == VT_REPORT && outs[3].length == 5 && memcmp(outs[3].text, "\033[?6c", 5) == 0);
+    WANT(outs[4].kind == VT_LIGHTS && outs[4].number == 2);
+    WANT(outs[5].kind == VT_SWITCH_TO && outs[5].number == 7);
+    WANT(outs[6].kind == VT_SWITCH_LAST);
+    WANT(outs[7].kind == 9 && outs[8].kind == 9);
+    /* One place at a time: each call ends right behind the byte that asks. */
+    static const size_t ends[] = { 2, 4, 4, 3, 4, 7, 5 };
+    size_t at = 0;
+    for (size_t i = 0; i < 7; i++) {
+        WANT(vt_screen_feed(&s, asking + at, sizeof asking - 1 - at, outs, 1, &fed) == VT_OK);
+        WANT(fed.taken == ends[i] && fed.outs == 1);
+        at += fed.taken;
+    }
+    WANT(vt_screen_feed(&s, asking + at, 1, outs, 1, &fed) == VT_OK && fed.taken == 1 && fed.outs == 0);
+    LEAVES(&s, vt_screen_feed(&s, asking, sizeof asking - 1, outs, 0, &fed), VT_OK);
+    WANT(fed.taken == 0 && fed.outs == 0);
+    LEAVES(&s, vt_screen_feed(&s, asking, 0, outs, 9, &fed), VT_OK);
+    WANT(fed.taken == 0 && fed.outs == 0);
+    LEAVES(&s, vt_screen_write(&s, asking, 0), VT_OK);
+    vt_screen_free(&s);
+}
+
+static void try_settings(void)
+{
+    struct vt_screen s = { 0 };
+    struct vt_state state;
+    struct vt_cell cell;
+    uint16_t words[256];
+    WANT(vt_screen_new(&s, 2, 4) == VT_OK);
+    /* The colours of the VGA: 170 for a part, bright ones 85 more. */
+    WANT(is_colour(&s, 1, 170, 0, 0) && is_colour(&s, 12, 85, 85, 255));
+    struct vt_colour palette[17] = { [8] = { 9, 9, 9, 9 }, [16] = { 9, 9, 9, 9 } };
+    WANT(vt_screen_palette(&s, palette, 8) == VT_OK && palette[7].blue == 170 && palette[8].blue == 9);
+    WANT(vt_screen_palette(&s, palette, 17) == VT_OK && palette[15].red == 255 && palette[16].red == 9);
+    WANT(vt_screen_palette(&s, palette, 0) == VT_OK && palette[0].red == 0);
+    WANT(vt_screen_set_colour(&s, 12, 1, 2, 3) == VT_OK);
+    WANT(is_colour(&s, 12, 1, 2, 3));
+    WANT(drawn(&s, "\033]P5102030"));
+    WANT(is_colour(&s, 5, 16, 32, 48));
+    LEAVES(&s, vt_screen_set_colour(&s, 16, 1, 1, 1), VT_RANGE);
+    LEAVES(&s, vt_screen_set_colour(&s, UINT32_MAX, 1, 1, 1), VT_RANGE);
+    for (unsigned i = 0; i < 256; i++)
+        words[i] = (uint16_t)(0x3B1 + i);
+    WANT(vt_screen_set_user(&s, words) == VT_OK);
+    WANT(drawn(&s, "\033%@\033(Ka\033(B\033%G"));
+    WANT(vt_screen_cell(&s, 0, 0, &cell) == VT_OK && cell.code == 0x3B1 + 'a');
+    WANT(drawn(&s, "\033[?1h\033=\033[20h\033[?8l\033[?25l\033[?5h\033[?6h\033[?7l\033[4h\033[3h"));
+    WANT(vt_screen_state(&s, &state) == VT_OK && state.modes.cursor_keys && state.modes.keypad);
+    WANT(state.modes.newline_mode && !state.modes.repeat && !state.visible && state.reverse);
+    WANT(state.origin && !state.autowrap && state.insert && state.controls);
+    LEAVES(&s, vt_screen_resize(&s, 0, 4), VT_RANGE);
+    LEAVES(&s, vt_screen_resize(&s, 2, 256), VT_RANGE);
+    LEAVES(&s, vt_screen_resize(&s, UINT32_MAX, UINT32_MAX), VT_RANGE);
+    WANT(vt_screen_resize(&s, 255, 255) == VT_OK);
+    WANT(vt_screen_state(&s, &state) == VT_OK && state.rows == 255 && state.cols == 255);
+    WANT(vt_screen_cell(&s, 0, 0, &cell) == VT_OK && cell.code == 0x3B1 + 'a');
+    WANT(vt_screen_resize(&s, 1, 1) == VT_OK);
+    vt_screen_free(&s);
+}
+
+static void try_changes(void)
+{
+    struct vt_screen s = { 0 };
+    uint8_t changed[4] = { 0, 0, 0, 9 };
+    WANT(vt_screen_new(&s, 3, 4) == VT_OK);
+    WANT(vt_screen_changed(&s, changed, 4) == VT_OK && changed[0] == 1 && changed[1] == 1 && changed[2] == 1);
+    WANT(changed[3] == 9);
+    LEAVES(&s, vt_screen_mark(&s), VT_OK);
+    WANT(vt_screen_changed(&s, changed, 4) == VT_OK && changed[0] == 0 && changed[1] == 0 && changed[2] == 0);
+    WANT(changed[3] == 9);
+    WANT(drawn(&s, "\033[2;1Hx"));
+    LEAVES(&s, vt_screen_changed(&s, changed, 3), VT_OK);
+    WANT(changed[0] == 0 && changed[1] == 1 && changed[2] == 0);
+    changed[1] = 9;
+    WANT(vt_screen_changed(&s, changed, 1) == VT_OK && changed[0] == 0 && changed[1] == 9);
+    changed[0] = 9;
+    WANT(vt_screen_changed(&s, changed, 0) == VT_OK && changed[0] == 9);
+    WANT(drawn(&s, "\b \033[3;4H\033[31m "));
+    WANT(vt_screen_changed(&s, changed, 3) == VT_OK && changed[0] == 0 && changed[1] == 0);
+    WANT(changed[2] == 1); /* a space in another colour */
+    WANT(vt_screen_mark(&s) == VT_OK);
+    WANT(vt_screen_resize(&s, 2, 4) == VT_OK);
+    changed[2] = 9;
+    WANT(vt_screen_changed(&s, changed, 4) == VT_OK && changed[0] == 1 && changed[1] == 1 && changed[2] == 9);
+    /* A resize forgets the mark, also one to the same size. */
+    WANT(vt_screen_mark(&s) == VT_OK && vt_screen_resize(&s, 2, 4) == VT_OK);
+    WANT(vt_screen_changed(&s, changed, 4) == VT_OK && changed[0] == 1 && changed[1] == 1);
+    vt_screen_free(&s);
+}
+
+static void try_redraw(void)
+{
+    struct vt_screen s = { 0 }, other = { 0 };
+    uint8_t text[4096];
+    size_t length, again;
+    WANT(vt_screen_new(&s, ROWS, COLS) == VT_OK && vt_screen_new(&other, ROWS, COLS) == VT_OK);
+    WANT(vt_screen_write(&s, TEXT, sizeof TEXT - 1) == VT_OK);
+    WANT(drawn(&other, "\033[7mQQQQ\033[2;3r\033[?6hZZZ"));
+    LEAVES(&s, vt_screen_redraw(&s, text, sizeof text, &length), VT_OK);
+    WANT(length > 0 && length <= sizeof text);
+    WANT(vt_screen_write(&other, text, length) == VT_OK);
+    take(&s, &before);
+    take(&other, &after);
+    WANT(is_same(&before, &after));
+    memset(text, 9, sizeof text);
+    LEAVES(&s, vt_screen_redraw(&s, text, length - 1, &again), VT_NO_ROOM);
+    WANT(again == length && text[0] == 9);
+    WANT(vt_screen_redraw(&s, text, 0, &again) == VT_NO_ROOM && again == length);
+    WANT(vt_screen_redraw(&s, text, length, &again) == VT_OK && again == length);
+    WANT(drawn(&s, "\033%@\033[3h\001\033[3l\033%G")); /* a cell of 01 */
+    again = 9;
+    LEAVES(&s, vt_screen_redraw(&s, text, sizeof text, &again), VT_NOT_DRAWABLE);
+    WANT(again == 9);
+    vt_screen_free(&s);
+    vt_screen_free(&other);
+}
+
+static void try_redraw_of_changes(void)
+{
+    struct vt_screen s = { 0 }, other = { 0 };
+    uint8_t whole[4096], text[4096];
+    size_t length, again;
+    WANT(vt_screen_new(&s, ROWS, COLS) == VT_OK && vt_screen_new(&other, ROWS, COLS) == VT_OK);
+    WANT(vt_screen_write(&s, TEXT, sizeof TEXT - 1) == VT_OK);
+    WANT(vt_screen_write(&other, TEXT, sizeof TEXT - 1) == VT_OK);
+    /* Nothing was remembered: the text of vt_screen_redraw. */
+    WANT(vt_screen_redraw(&s, whole, sizeof whole, &length) == VT_OK);
+    LEAVES(&s, vt_screen_redraw_changes(&s, text, sizeof text, &again), VT_OK);
+    WANT(again == length && memcmp(whole, text, length) == 0);
+    WANT(vt_screen_mark(&s) == VT_OK);
+    WANT(drawn(&s, "\033[3;1HZZ\033[2;3r"));
+    WANT(vt_screen_redraw(&s, whole, sizeof whole, &length) == VT_OK);
+    LEAVES(&s, vt_screen_redraw_changes(&s, text, sizeof text, &again), VT_OK);
+    WANT(again < length);
+    LEAVES(&s, vt_screen_redraw_changes(&s, text, again - 1, &length), VT_NO_ROOM);
+    WANT(length == again);
+    WANT(vt_screen_write(&other, text, again) == VT_OK);
+    take(&s, &before);
+    take(&other, &after);
+    WANT(is_same(&before, &after));
+    /* Another size than that of the mark: the whole text. */
+    WANT(vt_screen_resize(&s, 2, 2) == VT_OK);
+    WANT(vt_screen_redraw(&s, whole, sizeof whole, &length) == VT_OK);
+    WANT(vt_screen_redraw_changes(&s, text, sizeof text, &again) == VT_OK);
+    WANT(again == length && memcmp(whole, text, length) == 0);
+    vt_screen_free(&s);
+    vt_screen_free(&other);
+}
+
+static void try_picture(void)
+{
+    static const char begin[] = "<svg xmlns='http://www.w3.org/2000/svg'", end[] = "</svg>\n";
+    struct vt_screen s = { 0 };
+    uint8_t text[4096];
+    size_t length, again;
+    WANT(vt_screen_new(&s, 2, 4) == VT_OK && drawn(&s, "a<"));
+    LEAVES(&s, vt_screen_picture(&s, text, sizeof text, &length), VT_OK);
+    WANT(length > sizeof begin + sizeof end && memcmp(text, begin, sizeof begin - 1) == 0);
+    WANT(memcmp(text + length - (sizeof end - 1), end, sizeof end - 1) == 0);
+    text[0] = 9;
+    LEAVES(&s, vt_screen_picture(&s, text, length - 1, &again), VT_NO_ROOM);
+    WANT(again == length && text[0] == 9);
+    vt_screen_free(&s);
+}
+
+/* A pointer with the length 0 may be null. */
+static void try_null(void)
+{
+    struct vt_screen s = { 0 };
+    struct vt_fed fed = { 7, 7, { 7, 7 } };
+    struct vt_out out = { .kind = 9 };
+    size_t length;
+    WANT(vt_screen_new(&s, 2, 4) == VT_OK);
+    LEAVES(&s, vt_screen_feed(&s, NULL, 0, &out, 1, &fed), VT_OK);
+    WANT(fed.taken == 0 && fed.outs == 0 && fed.spare[0] == 0 && fed.spare[1] == 0 && out.kind == 9);
+    LEAVES(&s, vt_screen_feed(&s, TEXT, 1, NULL, 0, &fed), VT_OK);
+    WANT(fed.taken == 0 && fed.outs == 0);
+    LEAVES(&s, vt_screen_write(&s, NULL, 0), VT_OK);
+    LEAVES(&s, vt_screen_row(&s, 0, NULL, 0), VT_OK);
+    LEAVES(&s, vt_screen_row_text(&s, 0, NULL, 0, &length), VT_NO_ROOM);
+    WANT(length == 4);
+    LEAVES(&s, vt_screen_changed(&s, NULL, 0), VT_OK);
+    LEAVES(&s, vt_screen_palette(&s, NULL, 0), VT_OK);
+    LEAVES(&s, vt_screen_redraw(&s, NULL, 0, &length), VT_NO_ROOM);
+    LEAVES(&s, vt_screen_redraw_changes(&s, NULL, 0, &length), VT_NO_ROOM);
+    LEAVES(&s, vt_screen_picture(&s, NULL, 0, &length), VT_NO_ROOM);
+    vt_screen_free(&s);
+}
+
+/* A handle may be moved, and the version is that of the header. */
+static void try_moving(void)
+{
+    struct vt_screen s = { 0 }, moved;
+    struct vt_cell cell;
+    WANT(vt_version() == VT_VERSION);
+    WANT(vt_screen_new(&s, 2, 4) == VT_OK && drawn(&s, "x"));
+    memcpy(&moved, &s, sizeof s);
+    memset(&s, 0, sizeof s);
+    WANT(vt_screen_cell(&moved, 0, 0, &cell) == VT_OK && cell.code == 'x' && cell.attr == 7);
+    WANT(cell.spare[0] == 0 && cell.spare[1] == 0 && cell.spare[2] == 0);
+    vt_screen_free(&moved);
+}
+
+int main(void)
+{
+    try_making();
+    try_screen();
+    try_feeding();
+    try_settings();
+    try_changes();
+    try_redraw();
+    try_redraw_of_changes();
+    try_picture();
+    try_null();
+    try_moving();
+    return ended();
+}

@@ -1,0 +1,62 @@
+"""What programs of libvt.so.1 rely on: the calls, structs, numbers and macros of vt.h, a line each, in
+libvt/src/interface.txt.
+
+A call has its parameters, without their names; a struct its size, and each member its place, as libvt/tests/layout.c
+prints them. Spare members aren't in the file: they may get names.
+"""
+import re
+
+from .bench import TOP
+
+HEADER = TOP / "libvt/include/vt.h"
+STORED = TOP / "libvt/src/interface.txt"
+# Whether the file gets what the header has more.
+ADDS = False
+COMMENT = re.compile(r"/\*.*?\*/", re.S)
+CALL = re.compile(r"^((?:static inline )?\w+) (vt_\w+)\(([^;{]*)\)", re.M)
+ENUM = re.compile(r"^enum(?: \w+)? \{(.*?)\}", re.M | re.S)
+MACRO = re.compile(r"^#define (VT_(?!H$|VERSION)\w+) (.+)$", re.M)
+
+
+def type_of(parameter):
+    """The type of a parameter."""
+    words = " ".join(parameter.split())
+    array = re.search(r"\[\d*\]$", words)
+    name = re.sub(r"\w+(\[\d*\])?$", "", words).strip() if words != "void" else words
+    return name + (f" {array[0]}" if array else "")
+
+
+def lines_of_header():
+    """The calls, numbers and macros of vt.h."""
+    text = COMMENT.sub("", HEADER.read_text(encoding="utf-8"))
+    for result, name, parameters in CALL.findall(text):
+        yield f"call {name}: {', '.join(map(type_of, parameters.split(',')))}: {result}"
+    for block in ENUM.findall(text):
+        for item in filter(None, (it.strip() for it in block.split(","))):
+            yield f"number {' '.join(item.split())}"
+    for name, value in MACRO.findall(text):
+        yield f"macro {name} {' '.join(value.split())}"
+
+
+def present(layout):
+    """Every line of the header as it is, with the sizes and places that layout.c printed."""
+    return [*lines_of_header(), *(f"place {line}" for line in layout if ".spare " not in line)]
+
+
+def stored():
+    """The lines of the file."""
+    return STORED.read_text(encoding="utf-8").splitlines() if STORED.exists() else []
+
+
+def faults(layout):
+    """The lines of the file that the header lacks, and those of the header that the file lacks."""
+    now, then = present(layout), stored()
+    gone = [f"vt.h no longer has: {line}" for line in then if line not in now]
+    return gone + [f"the file lacks, and check_c.py --add-interface adds: {line}" for line in now if line not in then]
+
+
+def add(layout):
+    """Adds to the file what it lacks, and takes nothing away."""
+    then = stored()
+    new = [line for line in present(layout) if line not in then]
+    STORED.write_text("".join(f"{line}\n" for line in [*then, *new]), encoding="utf-8")
