@@ -5,8 +5,9 @@ usage: check_explore.py [--explore PATH] [--vt PATH]
 
 Each line of examples/orders/answers has a session, a question, and the answer: `never`, or `found` with the number of
 turns if it is known from elsewhere. An order that is found goes into the session as its `turns`. Then the journal of
-`vt play` has to begin with the calls that `explore` prints, and `vt check` has to accept that journal. Words that are
-no question, an empty list of questions and a damaged session have to end with their status and line.
+`vt play` has to begin with the calls that `explore` prints, and `vt check` has to accept that journal. A `never` has to
+stay one if just its states are allowed, and to be a `limit` with one less. Words that are no question, an empty list of
+questions and a damaged session have to end with their status and line.
 
 Prints a line for each difference and last 'N passed, M failed'. Ends with status 1 if one fails, 2 if a program is
 missing or the words are wrong.
@@ -77,6 +78,11 @@ def answer_faults(explore, vt, name, question, wanted):
     if found["answer"] != word:
         yield f"{found['answer']}, and not {word}"
         return
+    if word == "never":
+        for states, other in ((found["states"], "never"), (found["states"] - 1, "limit")):
+            again = run([explore, "--json", "--states", str(states), question], session)
+            if again.returncode != 0 or json.loads(again.stdout)["answer"] != other:
+                yield f"--states {states} doesn't answer {other}"
     if word != "found":
         return
     if count and len(found["turns"]) != int(count):
