@@ -21,7 +21,8 @@ Wants = ℕ → Event → Reply → WorldState → Bool
 -- the entry directly after these is asked for
 abbrev pub IsAsked : Wants → WorldState → List Entry → Entry → Type 0
 IsAsked wants start before entry =
-    wants entry.caller (plain_event entry.event) (plain_reply entry.reply) (replay start (before ++ entry ∷ [])) ≡ true
+    wants entry.caller (plain_event entry.event) (plain_reply entry.reply) (replay start (before ++ entry ∷ []))
+    ≡ true
 
 -- the history of this order is legal and follows the programs, and its last entry is asked for
 pub record IsFound (wants : Wants) (s : SessionView) (order : List ℕ) : Type 0 where
@@ -54,6 +55,6 @@ IfLimit a fact = ⊤
 -- if no such history has one, no right history of the session has one: that of a journal, ended or full
 abbrev pub NeverInJournals : Type 0
 NeverInJournals =
-    (wants : Wants) (s : SessionView) (console : WorldState) (history : List Entry) (end : Tail) (k : ℕ) (entry : Entry)
-    → IsNever wants s → IsRightHistory s console history end → slice_get history k ≡ Some entry
+    (wants : Wants) (s : SessionView) (console : WorldState) (history : List Entry) (end : Tail) (k : ℕ)
+    (entry : Entry) → IsNever wants s → IsRightHistory s console history end → slice_get history k ≡ Some entry
     → IsAsked wants (start_of s) (take k history) entry → ⊥

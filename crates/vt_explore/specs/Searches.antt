@@ -35,7 +35,8 @@ abbrev pub NoneMakes : Wants → Setup → Type 0
 NoneMakes wants o = (order : List ℕ) (p : ℕ) → Makes wants o (history_of o order) p → ⊥
 
 -- each call that p can make after this history isn't asked for, and leads to a history like one of these orders'
-pub record IsOpened (wants : Wants) (o : Setup) (known : List (List ℕ)) (history : List Entry) (p : ℕ) : Type 0 where
+pub record IsOpened (wants : Wants) (o : Setup) (known : List (List ℕ)) (history : List Entry)
+    (p : ℕ) : Type 0 where
   pub other :
       (e : Event) → call_now o history p ≡ Some e
       → is_wanted wants (replay o.start history) p e ≡ false
