@@ -186,7 +186,8 @@ class Keyboards(unittest.TestCase):
 
     def test_state(self):
         keyboard = libvt.Keyboard(KEYMAP)
-        self.assertEqual(keyboard.state, libvt.KeyState(libvt.UNICODE, libvt.ESCPREFIX, 0, 0, libvt.LIGHTS_FOLLOW, 0, 0))
+        wanted = libvt.KeyState(libvt.UNICODE, libvt.ESCPREFIX, 0, 0, libvt.LIGHTS_FOLLOW, 0, 0)
+        self.assertEqual(keyboard.state, wanted)
         keyboard.state.mode = libvt.MEDIUMRAW
         self.assertEqual(keyboard.scan(30), libvt.Typed(b"\x1e"))
         keyboard.release()
