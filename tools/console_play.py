@@ -1,7 +1,7 @@
 """Plays calls on a console as a session of `vt play`, and gives what the console answered.
 
-A session has one console, number 1. A dump (vcs(4)) shows its screen. A session holds 10,240 calls a process, so the
-calls are shared out to as many processes as they need, one after another.
+A session has one console, number 1. A dump (vcs(4)) shows its screen, and a read takes its reports. A session holds
+10,240 calls a process, so the calls are shared out to as many processes as they need, one after another.
 """
 import subprocess
 
@@ -9,13 +9,14 @@ from tool_files import Stop, reason
 
 SECONDS = 120
 CALLS = 10_000
-# The words of the two dumps (docs/reference/journal.md).
-ATTRIBUTES, CODES = "dump 1 1", "dump 2 1"
+# The words of the two dumps and of a read (docs/reference/journal.md): the calls whose answers are kept.
+ATTRIBUTES, CODES, REPORTS = "dump 1 1", "dump 2 1", "read 0 4096"
+KEPT = (ATTRIBUTES, CODES, REPORTS)
 HALF = 0x110000
 
 
 class Played:
-    """What a session answered: all that is printed, and its dumps in order."""
+    """What a session answered: all that is printed, and its dumps and reads in order."""
 
     def __init__(self, out, answers):
         self.out, self.answers = out, answers
@@ -46,10 +47,10 @@ class Console:
         out, answers = self.run(session(rows, cols, calls)), []
         for line in out.split(b"\n"):
             call, _, answer = line.partition(b" = ")
-            words = call.split(b" ", 3)
-            if len(words) > 2 and words[2] == b"dump":
+            words = call.split(b" ", 2)
+            if len(words) > 2 and words[2].decode("ascii", "replace") in KEPT:
                 answers.append(answer)
-        if len(answers) != sum(call in (ATTRIBUTES, CODES) for call in calls):
+        if len(answers) != sum(call in KEPT for call in calls):
             raise Stop(3, f"{self.program} play printed no whole play")
         return Played(out, answers)
 
@@ -71,7 +72,7 @@ def session(rows, cols, calls):
 
 
 def bytes_of(answer):
-    """The bytes of a dump."""
+    """The bytes of a dump, or of a read; a read of an empty queue has none."""
     return bytes.fromhex(answer[6:].decode("ascii")) if answer.startswith(b"bytes ") and answer != b"bytes -" else b""
 
 

@@ -30,12 +30,14 @@ sys.dont_write_bytecode = True
 sys.path.insert(0, str(pathlib.Path(__file__).resolve().parents[1]))
 
 import repository  # noqa: E402,F401: it has the folders of the modules below
-from console_play import ATTRIBUTES, CODES, REPORTS, Console, bytes_of, items_of  # noqa: E402
+from console_play import ATTRIBUTES, CODES, REPORTS, Console, bytes_of  # noqa: E402
 from programs import find_for_check  # noqa: E402
 from tool_files import Stop, number, reason  # noqa: E402
 
 SECONDS = 20
 FINE, REFUSED = 0, 5
+# The most bytes of a write.
+PIECE = 4_096
 # The right half of a character of two columns, in a dump of codes (docs/reference/screen.md).
 HALF = 0x110000
 
@@ -103,10 +105,15 @@ def text_of(size, given):
     return ran.stdout if ran.returncode == FINE else None
 
 
-def shown(console, size, steps):
-    """What a console shows after these texts, and what it shows and reports after the probe."""
-    items = items_of(steps, False) + [ATTRIBUTES, CODES, REPORTS, *items_of([PROBE], False), REPORTS, ATTRIBUTES, CODES]
-    answers = console.play(*size, items).answers
+def writes_of(text):
+    """The calls that write a text."""
+    return [f"write 0 {text[at : at + PIECE].hex()}" for at in range(0, len(text), PIECE)]
+
+
+def shown(console, size, text):
+    """What a console shows after this text, and what it shows and reports after the probe."""
+    calls = [*writes_of(text), ATTRIBUTES, CODES, REPORTS, *writes_of(PROBE), REPORTS, ATTRIBUTES, CODES]
+    answers = console.play(*size, calls).answers
     return answers[:2] + answers[3:]
 
 
@@ -147,13 +154,13 @@ def judge(console, i):
     rng = random.Random(f"redraw {i}")
     size = rng.choice(SIZES)
     given, other = stream(rng), stream(rng)
-    text, wanted = text_of(size, given), shown(console, size, [given])
+    text, wanted = text_of(size, given), shown(console, size, given)
     bad = undrawable_cell(size, *map(bytes_of, wanted[:2]))
     if text is None:
         return "refused" if bad else "it was refused, and each cell has a character that prints itself", 0, 0
     if bad:
         return f"it wasn't refused, and {bad}", len(text), size[0] * size[1]
-    got = shown(console, size, [other + text])
+    got = shown(console, size, other + text)
     names = ["characters, attributes or cursor", "codes", "reports", "attributes behind the probe", "codes behind the probe"]
     wrong = [name for name, a, b in zip(names, wanted, got, strict=True) if a != b]
     return f"{', '.join(wrong)} of {size[0]} by {size[1]}" if wrong else "same", len(text), size[0] * size[1]
