@@ -6,7 +6,7 @@ use Rattle.vt_redraw.specs.Drawable.{is_redrawable}
 use Rattle.vt_redraw.specs.Redraw.{redraw_of}
 use Rattle.vt_canvas.specs.Screen.{Screen}
 
--- the text that draws the screen again, if it can be drawn; otherwise none
-abbrev pub IsDrawn : Screen → Drawing → Type 0
-IsDrawn s (drawing.Text text) = (is_redrawable s ≡ true) × (text.bytes ≡ redraw_of s)
-IsDrawn s drawing.Refused = is_redrawable s ≡ false
+-- the drawing of a screen: the text that draws it again if it can be drawn, otherwise a refusal
+abbrev pub IsDrawingOf : Screen → Drawing → Type 0
+IsDrawingOf s (drawing.Text text) = (is_redrawable s ≡ true) × (text.bytes ≡ redraw_of s)
+IsDrawingOf s drawing.Refused = is_redrawable s ≡ false

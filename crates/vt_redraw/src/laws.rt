@@ -36,7 +36,8 @@ pub fn states_are_drawable()
 {}
 
 /// The rows of every screen that bytes make from a start are drawable exactly if each cell is a right half or has a
-/// character that prints itself; also after changes, if no word of the user's table takes two columns.
+/// character that prints itself, and has a byte for its attributes, as every cell of a grid has; also after changes, if
+/// no word of the user's table takes two columns.
 pub fn cells_are_drawable()
     ensures { TapeCellsAreDrawable }
 {

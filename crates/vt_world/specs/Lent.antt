@@ -23,11 +23,11 @@ abbrev pub if_error : Reply → Option GridView → Option GridView → Option G
 if_error (reply.Err errno) first second = first
 if_error answer first second = second
 
--- a console that isn't allocated gets its screen on the grid
+-- the grid that is left after a console was opened: none if the console was allocated on it just then
 abbrev pub grid_after_allocation : Bool → Option GridView → Option GridView
 grid_after_allocation allocated grid = if allocated then grid else None
 
--- a screen that is resized onto the grid leaves its old one
+-- the grid that is left of a resize: the old one of the screen; without a screen the one that was lent
 abbrev pub grid_after_resize : Option TerminalState → Option GridView → Option GridView
 grid_after_resize None grid = grid
 grid_after_resize (Some t) grid = Some t.emu.state.grid
