@@ -3,11 +3,11 @@
 
 usage: tools/build.py [--jobs N] [--out FOLDER] [--modules FOLDER] [PART ..]
 
-PART is vt, watch, picture, redraw, cases (which answers the worked cases of crates/cases) or c (the C library). Without
-one, all are built, and c only if there is a C compiler. FOLDER (out in the clone) gets the programs as FOLDER/bin/PART,
-and the library as FOLDER/c, in the folders of libvt/tools/build_c.sh. A part whose sources are those of its last build
-stays. If FOLDER/c has a library that was proved, that stays. FOLDER/bin/BUILD and FOLDER/c/BUILD name what was built,
-of which commit, and by which toolchain.
+PART is vt, watch, picture, redraw, explore, cases (which answers the worked cases of crates/cases) or c (the C
+library). Without one, all are built, and c only if there is a C compiler. FOLDER (out in the clone) gets the programs
+as FOLDER/bin/PART, and the library as FOLDER/c, in the folders of libvt/tools/build_c.sh. A part whose sources are those
+of its last build stays. If FOLDER/c has a library that was proved, that stays. FOLDER/bin/BUILD and FOLDER/c/BUILD name
+what was built, of which commit, and by which toolchain.
 
 The toolchain's compiler reads the sources of all parts at once, on one processor; then a compiler of its own makes each
 part, N of them side by side (as many as there are processors). With --modules all parts are built, and the folder after

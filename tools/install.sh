@@ -6,7 +6,7 @@
 # PREFIX is the folder under which they stand later, such as /usr/local or ~/.local; it is written into vt.pc, so a
 # relative one is taken from the folder where the tool is started. LIBDIR is the folder of the library, from PREFIX or
 # absolute (lib without it). With DESTDIR, here or in the environment, all files go below DESTDIR/PREFIX instead, as
-# packages want it. `vt` keeps its name; `watch`, `picture`, `redraw` and the tools get names that begin with `vt-`. The
+# packages want it. `vt` keeps its name; `watch`, `picture`, `redraw`, `explore` and the tools get names that begin with `vt-`. The
 # clone isn't needed afterwards. PREFIX/share/vt/BUILD names what was installed, of which commit, and whether it is
 # proved.
 #
@@ -48,7 +48,8 @@ case $libdir in
 esac
 
 # The crate and the installed name of each program.
-programs='vt:vt:vt watch:watch:vt-watch picture:picture:vt-picture redraw:redraw:vt-redraw'
+programs='vt:vt:vt watch:watch:vt-watch picture:picture:vt-picture redraw:redraw:vt-redraw
+explore:explore:vt-explore'
 commit=$(git -C "$top" describe --always '--dirty=, changed' --abbrev=40 '--exclude=*' 2> /dev/null) || commit=unknown
 toolchain=$(rt version 2> /dev/null) || toolchain='a toolchain that is unknown'
 made=$(mktemp)
@@ -100,6 +101,7 @@ put_library() {
     put 644 "$prefix/include" "$1/include/vt.h"
     put 644 "$library_to" "$1/lib/libvt.a"
     put 755 "$library_to" "$1/lib/libvt.so.1"
+    put 644 "$prefix/share/vt/keymaps" "$top/examples/keymaps/us.map"
     ln -sf libvt.so.1 "$below$library_to/libvt.so"
     echo "$below$library_to/libvt.so"
     mkdir -p "$below$library_to/pkgconfig"

@@ -1,15 +1,15 @@
 #!/usr/bin/env python3
-"""Finds the programs that the tools run: vt, watch, picture and redraw.
+"""Finds the programs that the tools run: vt, watch, picture, redraw and explore.
 
 usage: tools/programs.py [--proved] NAME ..
 
 A program is looked for at these places, in this order:
 
 1. the path that an option of a tool gives, such as `--vt PATH`
-2. the variable VT, WATCH, PICTURE or REDRAW of the environment
+2. the variable VT, WATCH, PICTURE, REDRAW or EXPLORE of the environment
 3. the proved program of the clone, such as crates/vt/out/vt
 4. out/bin of the clone, which tools/build.py fills without proofs
-5. PATH, in which an installed program is `vt`, `vt-watch`, `vt-picture` or `vt-redraw`
+5. PATH, in which an installed program is `vt`, `vt-watch`, `vt-picture`, `vt-redraw` or `vt-explore`
 
 Tools that were installed have no clone: they look into the folder `bin` of their prefix after the variable, and then
 into PATH. With VT_PROVED=1 in the environment, or with --proved, no place counts except the third one.
@@ -29,7 +29,7 @@ from tool_files import Stop
 
 TOP = pathlib.Path(__file__).resolve().parent.parent
 # The crate of each program.
-CRATES = {"vt": "vt", "watch": "watch", "picture": "picture", "redraw": "redraw"}
+CRATES = {"vt": "vt", "watch": "watch", "picture": "picture", "redraw": "redraw", "explore": "explore"}
 ONLY_PROVED = "VT_PROVED"
 
 

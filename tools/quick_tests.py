@@ -40,7 +40,7 @@ CHECKS = [
     ["check_streams.py"],
     ["check_expect.py --damaged 30", "check_python.py"],
     [f"check_c.py --library out/c --runs 200 --only {OF_C}"],
-    ["check_timeline.py"],
+    ["check_timeline.py", "check_explore.py"],
     ["check_pages.py", "check_watch.py 10", "check_keymaps.py 50", "check_why.py 100", "check_blocks.py"],
     ["check_build.py", "check_install.py", "check_links.py", "check_words.py", "check_snippets.py --no-run"],
     ["check_hostile.py 20", "check_redraw.py 40", "check_drill.py", "check_switches.py", "check_picture.py"],

@@ -25,13 +25,13 @@ top=$(cd "$(dirname "$0")/.." && pwd)
 to=${1-$top/out}
 mkdir -p "$to" || stop "$to can't be made"
 
-"$top/tools/programs.py" $proved vt watch picture redraw > /dev/null || stop "a program is missing"
+"$top/tools/programs.py" $proved vt watch picture redraw explore > /dev/null || stop "a program is missing"
 grep -q "^libvt: ${proved:+proved}" "$top/out/c/BUILD" ||
     stop "out/c has no such library: libvt/tools/build_c.sh makes it"
 changed=$(git -C "$top" status --porcelain --untracked-files=no) || stop "$top is no clone"
 [ -z "$changed" ] || stop "files were changed since the commit: $(echo "$changed" | head -n 3 | tr '\n' ' ')"
 if [ -n "$proved" ]; then
-    for program in $("$top/tools/programs.py" --proved vt watch picture redraw) "$top/out/c/lib/libvt.a"; do
+    for program in $("$top/tools/programs.py" --proved vt watch picture redraw explore) "$top/out/c/lib/libvt.a"; do
         newer=$(find "$top"/crates/*/src -name '*.rt' -newer "$program" | head -n 1)
         [ -z "$newer" ] || stop "$newer was changed after $program was built"
     done

@@ -49,6 +49,7 @@ CHECKS = [
     ("check_hostile", ["dev/checks/check_hostile.py"]),
     ("make_conformance --check", ["dev/gen/make_conformance.py", "--check"]),
     ("check_watch", ["dev/checks/check_watch.py", "40"]),
+    ("check_explore", ["dev/checks/check_explore.py"]),
     ("check_timeline", ["dev/checks/check_timeline.py"]),
     ("check_keymaps", ["dev/checks/check_keymaps.py"]),
     ("check_models", ["dev/checks/check_models.py"]),

@@ -73,22 +73,15 @@ def terminal(request: pytest.FixtureRequest, tmp_path: pathlib.Path) -> Iterator
 
 def keep(item: pytest.Item, made: Terminal, number: int) -> list[str]:
     """Writes the picture and the recording of a terminal. Returns lines with their paths."""
-    from libvt.calls import Error
     from libvt.casts import cast_of
-    from libvt.pictures import NoPicture
     from libvt.screen_files import write_text
 
     folder = item.config.getoption("--vt-keep")
     name = re.sub(r"[^A-Za-z0-9_.-]+", "-", item.name if folder else "terminal")
     path = pathlib.Path(folder or getattr(item, "funcargs")["tmp_path"]) / f"{name}-{number}.svg"
-    lines = []
-    try:
-        write_text(path, made.now().picture())
-        lines.append(f"    picture {path}")
-    except (NoPicture, Error) as fault:
-        lines.append(f"    no picture: {fault}")
+    write_text(path, made.now().picture())
     write_text(path.with_suffix(".cast"), cast_of(made))
-    return [*lines, f"    recording {path.with_suffix('.cast')}"]
+    return [f"    picture {path}", f"    recording {path.with_suffix('.cast')}"]
 
 
 def section_of(item: pytest.Item, made: Terminal, number: int, has_screen: bool) -> str:

@@ -3,14 +3,14 @@
 
 usage: python3 -m libvt.animation [--at S | --pause S --rate N] [--size R C] [--out FILE] FILE.cast
 
-The cells of each frame are drawn by the program `picture` (libvt.pictures). Each row is a strip of all its states, one
+The cells of each frame are those of the library's picture (Screen.picture). Each row is a strip of all its states, one
 below the other, of which one is seen at a time; keyframes of CSS move the strips. Between two states is an empty row,
 since letters may be higher than a row. Output that is less than 1/N seconds apart (20) is one frame. A pause is at most
 S seconds long (2), and so is the one at the end. A viewer that reduces motion shows the last frame.
 
 --at S prints the still picture of the screen S seconds after the start of the recording. --size has the rows and
 columns of a recording that doesn't have them. Statuses: 0 the picture was written; 1 the words or the recording aren't
-of the form, or a file can't be read or written; 2 the program picture isn't there, or failed.
+of the form, or a file can't be read or written.
 """
 from __future__ import annotations
 
@@ -19,11 +19,10 @@ import re
 import sys
 from typing import Iterator, NamedTuple, NoReturn
 
-from .calls import NotDrawable, OutOfRange, Screen
+from .calls import OutOfRange, Screen
 from .casts import BadCast, Cast, read_cast
 from .expect_values import seconds
 from .expect_values import size as size_of
-from .pictures import NoPicture, picture_of
 from .record import Stop, read_text, write_bytes
 from .terminal import Event
 
@@ -97,25 +96,15 @@ class Player:
 
     def __init__(self, cast: Cast) -> None:
         self.screen = Screen(cast.rows, cast.columns)
-        self.stream = b""
 
     def take(self, event: Event) -> None:
         """Draws output, or takes another size."""
         if event.kind == "o":
             self.screen.write(event.text)
-            self.stream += event.text
         else:
             cols, _, rows = event.text.decode("utf-8", "replace").partition("x")
             if rows.isdigit() and cols.isdigit():
                 self.screen.resize(int(rows), int(cols))
-
-    def picture(self) -> str:
-        """The picture of the screen."""
-        try:
-            text = self.screen.redraw()
-        except NotDrawable:
-            text = self.stream
-        return picture_of(text, *self.screen.size)
 
 
 def frames_of(cast: Cast, rate: float, pause: float) -> list[Frame]:
@@ -127,8 +116,8 @@ def frames_of(cast: Cast, rate: float, pause: float) -> list[Frame]:
         last = group[0].seconds
         for event in group:
             player.take(event)
-        frames.append(frame_of(clock, player.picture(), player.screen.size))
-    return frames or [frame_of(0.0, player.picture(), player.screen.size)]
+        frames.append(frame_of(clock, player.screen.picture(), player.screen.size))
+    return frames or [frame_of(0.0, player.screen.picture(), player.screen.size)]
 
 
 def still(cast: Cast, moment: float) -> str:
@@ -137,7 +126,7 @@ def still(cast: Cast, moment: float) -> str:
     for event in cast.events:
         if event.seconds <= moment and event.kind in ("o", "r"):
             player.take(event)
-    return player.picture()
+    return player.screen.picture()
 
 
 def keyframes(name: str, steps: list[tuple[float, str]], whole: float) -> str:
@@ -223,8 +212,6 @@ def run(words: list[str]) -> int:
         raise Stop(1, f"{given.file}:{fault.line}: {fault}") from None
     except (ValueError, OutOfRange) as fault:
         raise Stop(1, str(fault)) from None
-    except NoPicture as fault:
-        raise Stop(2, str(fault)) from None
     write_bytes(given.out, drawn.encode())
     return 0
 

@@ -535,7 +535,7 @@ class Screen(_Object):
         """The same for a terminal that shows the cells that mark remembered: only rows that differ are in the text."""
         return self._text("redraw_changes", room=4096)
 
-    def picture(self):
+    def picture(self) -> str:
         """The screen as a picture in SVG."""
         return self._text("picture", room=16384).decode("utf-8", "surrogatepass")
 

@@ -6,7 +6,6 @@ import re
 from typing import Callable, NamedTuple, Pattern, Sequence, Union
 
 from .calls import Cell, Cursor, Modes, NotDrawable, Screen, Settings
-from .pictures import picture_of
 
 PLAIN, MASKED = 7, "\u2591"
 
@@ -46,10 +45,11 @@ class Shown:
         ]
         self._lines = ["".join(map(letter, cells)) for cells in self._cells]
         self.rows: list[str] = [line.rstrip(" ") for line in self._lines]
+        self._drawing, self._picture = b"", ""
         try:
-            self._drawing: bytes | None = screen.redraw()
+            self._drawing = screen.redraw()
         except NotDrawable:
-            self._drawing = None
+            self._picture = screen.picture()
 
     @property
     def text(self) -> str:
@@ -162,10 +162,12 @@ class Shown:
         return found
 
     def picture(self) -> str:
-        """The screen in SVG, by the program `picture` (libvt.pictures)."""
-        if self._drawing is None:
-            raise NotDrawable("no text draws this screen, so there is no picture of it")
-        return picture_of(self._drawing, *self.size)
+        """The screen in SVG (Screen.picture); masks are not in it."""
+        if not self._picture:
+            with Screen(*self.size) as screen:
+                screen.write(self._drawing)
+                self._picture = screen.picture()
+        return self._picture
 
 
 def described(what: What) -> str:

@@ -12,9 +12,9 @@ import xml.dom.minidom
 FOLDER = pathlib.Path(__file__).resolve().parent.parent
 sys.path.insert(0, str(FOLDER))
 
-from libvt.casts import read_cast  # noqa: E402: after its folder
+from libvt import Screen  # noqa: E402: after its folder
+from libvt.casts import read_cast  # noqa: E402
 from libvt.expect_files import Fault, read_test  # noqa: E402
-from libvt.pictures import NoPicture, picture_of, program  # noqa: E402
 
 LIVE = r"""
 SIZE 6 30
@@ -160,10 +160,6 @@ class Casts(unittest.TestCase):
         self.assertEqual(b"".join(event.text for event in cast.events if event.kind == "i"), b"\x1b[A\x01<\r\x04")
 
     def test_a_moving_picture(self):
-        try:
-            program()
-        except NoPicture as fault:
-            self.skipTest(str(fault))
         events = '[0, "o", "one"]\n[1, "o", "\\r\\n\\u001b[31mtwo"]\n[9, "o", "\\u001b[Hsix"]\n'
         (self.folder / "a.cast").write_text('{"version": 2, "width": 9, "height": 3}\n' + events, encoding="utf-8")
         ran = run("animation", "a.cast", folder=self.folder)
@@ -175,7 +171,9 @@ class Casts(unittest.TestCase):
         self.assertIn("@keyframes r1{0%{transform:translateY(0px)}20%{transform:translateY(-30px)}}", ran.stdout)
         self.assertNotIn("@keyframes r2", ran.stdout)
         ran = run("animation", "--at", "5", "a.cast", folder=self.folder)
-        self.assertEqual(ran.stdout, picture_of(b"one\r\n\x1b[31mtwo", 3, 9))
+        with Screen(3, 9) as screen:
+            screen.write(b"one\r\n\x1b[31mtwo")
+            self.assertEqual(ran.stdout, screen.picture())
         (self.folder / "b.cast").write_text("{", encoding="utf-8")
         for words, wanted in (
             (["--at", "x", "a.cast"], "wanted seconds"), (["--size", "0", "1", "a.cast"], "wanted rows"),

@@ -47,7 +47,7 @@ def test_fixture(pytester, workers, monkeypatch):
     ran.stdout.fnmatch_lines_random(["*recording kept/test_bad-1.cast"])
     ran.stdout.fnmatch_lines(["*      ^"])
     kept = {path.name for path in (pytester.path / "kept").iterdir()}
-    assert kept >= {"test_bad-1.cast", "test_other-1.cast"}
+    assert kept == {f"test_{name}-1.{kind}" for name in ("bad", "other") for kind in ("cast", "svg")}
     monkeypatch.setenv("CI", "true")
     assert pytester.runpytest_subprocess(*words, "--vt-accept").ret == pytest.ExitCode.USAGE_ERROR
 

@@ -10,7 +10,6 @@ sys.path.insert(0, str(pathlib.Path(__file__).resolve().parent.parent))
 
 from libvt import Screen, Shown, Terminal  # noqa: E402: after its folder
 from libvt.casts import BadCast, cast_of, read_cast  # noqa: E402
-from libvt.pictures import NoPicture, picture_of, program  # noqa: E402
 from libvt.screen_files import compared, read_screen, saved  # noqa: E402
 
 
@@ -75,13 +74,16 @@ class Looks(unittest.TestCase):
 
 class Files(unittest.TestCase):
     def test_pictures(self):
-        try:
-            program()
-        except NoPicture as fault:
-            self.skipTest(str(fault))
-        text = "\x1b[2J<a&b> \x1b[1;31m中\x1b[5mx\x1b[2;3H\x1b]P1123456é".encode()
-        self.assertEqual(shown(text).picture(), picture_of(text, 3, 20))
-        self.assertIn("<svg", shown("a").picture())
+        for text in (
+            "\x1b[2J<a&b> \x1b[1;31m中\x1b[5mx\x1b[2;3H\x1b]P1123456é", "\x1b[?5h\x1b[?25lreversed",
+            "\x1b%@\x1b[3h\x01no text draws this one",
+        ):  # fmt: skip
+            with Screen(3, 20) as screen:
+                screen.write(text.encode())
+                it, wanted = Shown(screen), screen.picture()
+                screen.write(b"later")
+            self.assertEqual(it.picture(), wanted)
+            self.assertTrue(wanted.startswith("<svg "))
 
     def test_recordings(self):
         with Terminal(["sh", "-c", "printf 'h\\303\\251'; read x; printf 'got %s' $x"], 3, 20) as it:

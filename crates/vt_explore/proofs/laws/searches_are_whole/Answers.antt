@@ -1,0 +1,9 @@
+use Rattle.vt_explore.proofs.Journals.{never_in_journals}
+use Rattle.vt_explore.proofs.Nevers.{never_from}
+use Rattle.vt_explore.proofs.laws.searches_are_whole.Goals as goal
+
+pub returns-clause-all : goal.returns-clause-all
+returns-clause-all c = never_from
+
+pub returns-clause-journals : goal.returns-clause-journals
+returns-clause-journals c = never_in_journals

@@ -1,0 +1,5 @@
+pub mod Alike
+pub mod Facts
+pub mod Positions
+pub mod Questions
+pub mod Searches

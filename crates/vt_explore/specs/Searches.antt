@@ -1,0 +1,65 @@
+-- Searches over orders. Public clauses name only `OpenedAreAll`.
+use Rattle.std.specs.Prelude.{◌≡◌, ◌<◌, ⊤, ℕ, Bool, true, false, List, [], ◌∷◌, ◌++◌, Some, None, slice_get}
+use Rattle.vt_explore.specs.Alike.{HasLike}
+use Rattle.vt_explore.specs.Questions.{Wants}
+use Rattle.vt_explore.specs.declared.tried.Tried.{Tried}
+use Rattle.vt_explore.specs.declared.tried.Tried.TheVariants as tried
+use Rattle.session_order.specs.Ends.{Setup}
+use Rattle.session_order.specs.Orders.{history_of}
+use Rattle.session_order.specs.Serial.{call_now, entry_at}
+use Rattle.vt_events.specs.declared.entry.Entry.{Entry}
+use Rattle.vt_events.specs.declared.event.Event.{Event}
+use Rattle.vt_world.specs.History.{replay}
+use Rattle.vt_world.specs.State.{WorldState}
+use Rattle.vt_world.specs.Step.{step}
+
+-- whether the call of p in this machine is asked for
+abbrev pub is_wanted : Wants → WorldState → ℕ → Event → Bool
+is_wanted wants w p e = wants p e (step w p e).reply (step w p e).world
+
+-- p can make a call directly after this history that is asked for
+pub record Makes (wants : Wants) (o : Setup) (history : List Entry) (p : ℕ) : Type 0 where
+  pub call : Event
+  pub now : call_now o history p ≡ Some call
+  pub wanted : is_wanted wants (replay o.start history) p call ≡ true
+
+-- the last turn of this order makes a call that is asked for
+pub record EndsAsked (wants : Wants) (o : Setup) (order : List ℕ) : Type 0 where
+  pub before : List ℕ
+  pub last : ℕ
+  pub parts : order ≡ before ++ last ∷ []
+  pub makes : Makes wants o (history_of o before) last
+
+-- no order makes a call that is asked for
+abbrev pub NoneMakes : Wants → Setup → Type 0
+NoneMakes wants o = (order : List ℕ) (p : ℕ) → Makes wants o (history_of o order) p → ⊥
+
+-- each call that p can make after this history isn't asked for, and leads to a history like one of these orders'
+pub record IsOpened (wants : Wants) (o : Setup) (known : List (List ℕ)) (history : List Entry)
+    (p : ℕ) : Type 0 where
+  pub other :
+      (e : Event) → call_now o history p ≡ Some e
+      → is_wanted wants (replay o.start history) p e ≡ false
+  pub leads :
+      (e : Event) → call_now o history p ≡ Some e
+      → HasLike o known (history ++ entry_at o.start history p e ∷ [])
+
+-- each of the first n known orders is opened
+abbrev pub AreOpened : Wants → Setup → List (List ℕ) → ℕ → Type 0
+AreOpened wants o known n =
+    (k : ℕ) (order : List ℕ) (p : ℕ) → k < n → slice_get known k ≡ Some order
+    → IsOpened wants o known (history_of o order) p
+
+-- if the start is known, and all known orders are opened, no call is asked for in any order
+abbrev pub OpenedAreAll : Type 0
+OpenedAreAll =
+    (wants : Wants) (o : Setup) (known : List (List ℕ)) (n : ℕ) → HasLike o known [] → AreOpened wants o known n
+    → slice_get known n ≡ None → NoneMakes wants o
+
+abbrev pub IfFound : Tried → (List ℕ → Type 0) → Type 0
+IfFound (tried.Found order) says = says order
+IfFound t says = ⊤
+
+abbrev pub IfKnown : Tried → Type 0 → Type 0
+IfKnown tried.Known fact = fact
+IfKnown t fact = ⊤

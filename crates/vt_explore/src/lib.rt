@@ -1,0 +1,27 @@
+//! Every order in which the callers of a session can make their calls: an order in which a call is made that a
+//! question asks for, or that none is made in any.
+#![tactic(auto)]
+
+mod conditions;
+mod digests;
+mod exploring;
+mod fact;
+mod laws;
+mod order;
+mod outcome;
+mod pattern;
+mod places;
+mod position;
+mod question;
+mod search;
+mod spares;
+mod tried;
+
+pub use conditions::Conditions;
+pub use exploring::explore;
+pub use fact::{Condition, Fact};
+pub use laws::searches_are_whole;
+pub use order::Order;
+pub use outcome::{Answer, Outcome};
+pub use pattern::{AnswerKind, AnswerPattern, CallPattern, NumberAt};
+pub use question::Question;
