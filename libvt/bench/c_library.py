@@ -10,8 +10,14 @@ sixteenth) at 25 by 80, and callgrind counts, less what an empty input takes. `s
 every byte; what that takes more than in long pieces is a call's own cost. Prints a table, the greatest ratio to `vt
 screen`, and what a scan byte of `vt_keys_scan` takes for three keys and for a byte that types none
 (dev/engines/keys.c); the status is 1 if that ratio is over RATIO, or if the rows of libvt aren't those of `vt screen`.
-A VT that tools/build.py made without proofs is refused without --unproved, with status 2. """ import argparse import os
-import pathlib import subprocess import sys import tempfile
+A VT that tools/build.py made without proofs is refused without --unproved, with status 2.
+"""
+import argparse
+import os
+import pathlib
+import subprocess
+import sys
+import tempfile
 
 sys.dont_write_bytecode = True
 sys.path.insert(0, str(pathlib.Path(__file__).resolve().parents[2] / "dev"))
