@@ -4,7 +4,7 @@
 usage: inputs.py FOLDER [MIB] [SEED]
 
 The same numbers give the same bytes. Every file is made of whole lines or whole sequences, and only of sequences that
-the engines of engines/ know too, so that all of them should print the same rows.
+the engines of dev/engines/ know too, so that all of them should print the same rows.
 """
 import pathlib
 import random

@@ -3,8 +3,8 @@
 
 usage: screens.py VT [--rows R] [--cols C] [--mib N] [--runs N] [--seed S] [--only KIND,..] [--count] [--unproved]
 
-The engines are those that engines/build.sh has built; one that isn't there is left out. So is `plain`, which is no engine
-but engines/plain.c, plain C for these inputs, with a ratio of its own. Each program reads a file and prints the rows; all run by turns on each input, so that a busy machine slows all alike, and the least processor time
+The engines are those that dev/engines/build.sh has built; one that isn't there is left out. So is `plain`, which is no engine
+but dev/engines/plain.c, plain C for these inputs, with a ratio of its own. Each program reads a file and prints the rows; all run by turns on each input, so that a busy machine slows all alike, and the least processor time
 and the least wall time of a program's runs count. MB is 10^6 bytes. --count takes instructions too, on the first MiB,
 less those of an empty input (valgrind's callgrind). A VT that tools/build.py made without proofs is refused without --unproved, with status 2.
 """

@@ -3,14 +3,14 @@
 
 usage: c_library.py VT [--library OUT] [--only KIND,..] [--most RATIO] [--unproved]
 
-OUT is a folder that libvt/tools/build_c.sh filled (out/c in the clone). The programs are engines/libvt.c, libvterm.c
-and libtsm.c over the same engines/screen.h, compiled by cc -O3; an engine that isn't installed is left out. Each reads
-the first MiB of the ten kinds of text of inputs.py (`scroll` an eighth, `erase` and `lines` a sixteenth) at 25 by 80,
-and callgrind counts, less what an empty input takes. `single bytes` is libvt.c with a call for every byte; what that
-takes more than in long pieces is a call's own cost. Prints a table, the greatest ratio to `vt screen`, and what a scan
-byte of `vt_keys_scan` takes for three keys and for a byte that types none (engines/keys.c); the status is 1 if that
-ratio is over RATIO, or if the rows of libvt aren't those of `vt screen`. A VT that tools/build.py made without proofs
-is refused without --unproved, with status 2.
+OUT is a folder that libvt/tools/build_c.sh filled (out/c in the clone). The programs are dev/engines/libvt.c,
+libvterm.c and libtsm.c over the same dev/engines/screen.h, compiled by cc -O3; an engine that isn't installed is left
+out. Each reads the first MiB of the ten kinds of text of inputs.py (`scroll` an eighth, `erase` and `lines` a
+sixteenth) at 25 by 80, and callgrind counts, less what an empty input takes. `single bytes` is libvt.c with a call for
+every byte; what that takes more than in long pieces is a call's own cost. Prints a table, the greatest ratio to `vt
+screen`, and what a scan byte of `vt_keys_scan` takes for three keys and for a byte that types none
+(dev/engines/keys.c); the status is 1 if that ratio is over RATIO, or if the rows of libvt aren't those of `vt screen`.
+A VT that tools/build.py made without proofs is refused without --unproved, with status 2.
 """
 import argparse
 import os
@@ -81,7 +81,7 @@ def main():
             programs[engine] = compiled(folder, engine, engine, f"-l{engine.removeprefix('lib')}")
         programs = {name: command for name, command in programs.items() if command}
         if "libvt" not in programs:
-            sys.exit(f"c_library.py: engines/libvt.c isn't compiled with {archive}")
+            sys.exit(f"c_library.py: dev/engines/libvt.c isn't compiled with {archive}")
         empty = {name: instructions(command, os.devnull) for name, command in programs.items()}
         for kind in given.only.split(","):
             path = folder / "input"
