@@ -101,6 +101,7 @@ put_library() {
     put 644 "$prefix/include" "$1/include/vt.h"
     put 644 "$library_to" "$1/lib/libvt.a"
     put 755 "$library_to" "$1/lib/libvt.so.1"
+    put 644 "$prefix/share/vt/keymaps" "$top/examples/keymaps/us.map"
     ln -sf libvt.so.1 "$below$library_to/libvt.so"
     echo "$below$library_to/libvt.so"
     mkdir -p "$below$library_to/pkgconfig"

@@ -23,7 +23,9 @@ NAMES = {
 }  # fmt: skip
 # What a module reads besides Python.
 DATA = {
-    "package.py": ["libvt/bindings/python/libvt/*.py", "libvt/bindings/python/libvt/py.typed", "libvt/bindings/python/pytest_libvt.py"],
+    "tools/package.py": [
+        "libvt/bindings/python/libvt/*.py", "libvt/bindings/python/libvt/py.typed", "libvt/bindings/python/pytest_libvt.py",
+    ],
     "tools/timeline.py": ["tools/timeline*.css", "tools/timeline*.js"],
     "tools/vt_names.py": ["crates/key_syms/src/table.rt", "crates/key_syms/src/index.rt"],
     "dev/engines/conformance/forms.py": ["examples/conformance/[a-z]*"],

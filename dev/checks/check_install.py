@@ -34,6 +34,7 @@ INSTALLERS = ("install.sh", "release.sh", "user_tools.py", "programs.py", "tool_
 OTHERS = ("env", "sh", "cat", "sed", "true")
 PAGES = ["man1/vt.1", "man1/vt-tools.1", "man3/vt.3", "man5/vt-session.5", "man5/vt-journal.5", "man5/vt-keymap.5"]
 LIBRARY = ("include/vt.h", "lib/libvt.a", "lib/libvt.so.1", "lib/libvt.so", "lib/pkgconfig/vt.pc")
+KEYMAP = "share/vt/keymaps/us.map"
 TEST = """SIZE 2 10
 PUSH "hello"
 ?row 0 = "hello"
@@ -65,6 +66,7 @@ class Clone:
     def __init__(self, folder, is_proved_there):
         self.top = pathlib.Path(folder)
         names = [*user_tools.needed(), *(f"tools/{name}" for name in INSTALLERS), "crates.txt"]
+        names.append("examples/keymaps/us.map")
         for name in [*names, *(f"man/{page.name}" for page in (TOP / "man").glob("*.[1-9]"))]:
             self.copy(TOP / name, name)
         for name, crate in CRATES.items():
@@ -115,7 +117,7 @@ def check_files(check, prefix, clone, libdir="lib"):
     """The installed files."""
     names = [*(f"bin/{installed_name(name)}" for name in CRATES), *(f"bin/{name}" for name in user_tools.NAMES)]
     names += [f"share/man/{page}" for page in PAGES]
-    names += [name.replace("lib/", f"{libdir}/", 1) for name in LIBRARY if clone.has_library]
+    names += [name.replace("lib/", f"{libdir}/", 1) for name in (*LIBRARY, KEYMAP) if clone.has_library]
     for name in names:
         check.holds((prefix / name).is_file(), f"{name} isn't installed")
     lines = (prefix / "share/vt/BUILD").read_text(encoding="utf-8").splitlines()

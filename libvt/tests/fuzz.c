@@ -193,10 +193,26 @@ static void redraw_changes(struct pair *p)
     free(text);
 }
 
+/* The picture of a small screen needs as much room as it names. */
+static void picture(struct pair *p)
+{
+    size_t length = 0, again;
+    if (p->is_made && p->rows * p->cols > 1000)
+        return;
+    must(vt_screen_picture(&p->fed, NULL, 0, &length) == (p->is_made ? VT_NO_ROOM : VT_NOTHING));
+    if (!p->is_made)
+        return;
+    uint8_t *text = malloc(length);
+    must(text != NULL && vt_screen_picture(&p->fed, text, length, &again) == VT_OK && again == length);
+    must(length > 5 && memcmp(text, "<svg ", 5) == 0);
+    free(text);
+}
+
 /* The text of a redraw makes the same cells on another screen, and needs as much room as it names. */
 static void redraw(struct pair *p)
 {
     size_t length = 0, again;
+    picture(p);
     uint8_t code = vt_screen_redraw(&p->fed, (uint8_t *)&again, 0, &length);
     must(p->is_made ? code == VT_NO_ROOM || code == VT_NOT_DRAWABLE : code == VT_NOTHING);
     if (code != VT_NO_ROOM)
@@ -255,6 +271,22 @@ static void type(struct vt_keys *k, struct vt_key_state *state)
     free(scans);
 }
 
+/* Sets the pairs that these bytes are, and reads them. */
+static void set_pairs(struct vt_keys *k, const uint8_t *bytes, size_t length)
+{
+    static struct vt_pair pairs[256], found[256];
+    size_t count = length / sizeof *pairs, read = 0;
+    bool is_made = k->at != NULL, is_good = true;
+    must(count <= 256);
+    if (count > 0)
+        memcpy(pairs, bytes, count * sizeof *pairs);
+    for (size_t i = 0; i < count; i++)
+        is_good = is_good && pairs[i].accent <= 65535 && pairs[i].base <= 65535 && pairs[i].result <= 65535;
+    must(vt_keys_set_pairs(k, pairs, count) == (!is_made ? VT_NOTHING : is_good ? VT_OK : VT_RANGE));
+    must(vt_keys_pairs(k, found, 256, &read) == (is_made ? VT_OK : VT_NOTHING));
+    must(!is_made || !is_good || (read == count && memcmp(found, pairs, count * sizeof *pairs) == 0));
+}
+
 static void set_keys(struct vt_keys *k, struct vt_key_state *state)
 {
     uint32_t a = number(), b = number();
@@ -282,6 +314,7 @@ static void set_keys(struct vt_keys *k, struct vt_key_state *state)
     uint8_t code = vt_keys_string(k, a, string, room, &found);
     must(code == CODE(a <= 255) || (wanted == VT_OK && code == VT_NO_ROOM && found > room));
     must(!is_set || (found == length && (code != VT_OK || memcmp(string, text, length) == 0)));
+    set_pairs(k, text, length);
     free(text);
 }
 

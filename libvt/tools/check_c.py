@@ -219,7 +219,7 @@ def check_install(bench):
     install = [TOP / "tools/install.sh", "--unproved"]
     ran = bench.ends_well([*install, "/opt/vt"], "install.sh", env=environment)
     library = ["include/vt.h", "lib/libvt.a", "lib/libvt.so", "lib/libvt.so.1", "lib/pkgconfig/vt.pc"]
-    for name in [*library, "share/man/man3/vt.3", "share/man/man1/vt.1"]:
+    for name in [*library, "share/vt/keymaps/us.map", "share/man/man3/vt.3", "share/man/man1/vt.1"]:
         bench.holds((below / "opt/vt" / name).exists() and name in ran.stdout.decode(), f"install.sh installs {name}")
     prefix = (below / "opt/vt/lib/pkgconfig/vt.pc").read_text().splitlines()[0]
     bench.holds(prefix == "prefix=/opt/vt", f"vt.pc has the prefix: {prefix}")

@@ -207,13 +207,13 @@ class Keyboards(unittest.TestCase):
                 call()
 
     def test_keycodes(self):
-        """Keycodes are those of linux/input-event-codes.h, kinds those of docs/reference/keys.md: 1 is a character."""
+        """Keycodes are those of linux/input-event-codes.h, kinds those of docs/reference/keys.md: 2 is a letter."""
         keyboard = libvt.Keyboard(KEYMAP)
         self.assertEqual([keyboard.key(30), keyboard.key(30, False)], [libvt.Typed(b"a"), None])
         self.assertEqual(keyboard.keycode(44), 44)
         keyboard.set_keycode(44, 30)
         self.assertEqual((keyboard.keycode(44), keyboard.scan(44)), (30, libvt.Typed(b"a")))
-        self.assertEqual(keyboard.entry(0, 30), (1, 97))
+        self.assertEqual(keyboard.entry(0, 30), (2, 97))
         keyboard.set_entry(0, 30, 1, 98)
         self.assertEqual((keyboard.entry(0, 30), keyboard.scan(44)), ((1, 98), libvt.Typed(b"b")))
         for call in (
