@@ -56,7 +56,10 @@ fn explore(rt: &HostRuntime) -> Result<(), Failure> {
 fn output(rt: &HostRuntime, alloc: Global, options: &Options) -> Result<Bytes, Failure> {
     let mut questions = Vec::new(alloc);
     for i in 0..options.questions.len() {
-        questions.push(question_of(alloc, options.questions[i].as_slice(), i + 1)?)?;
+        let question = question_of(alloc, options.questions[i].as_slice(), i + 1)?;
+        if questions.push(question).is_err() {
+            return Err(Failure::NoMemory);
+        }
     }
     let mut input = Vec::new(alloc);
     if rt.reader().read_to_end(&mut input).is_err() {

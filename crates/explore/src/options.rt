@@ -60,8 +60,10 @@ fn take(options: &mut Options, counting: bool, word: Bytes) -> Result<bool, Fail
     if word.as_slice() == b"--states".as_slice() {
         return Ok(true);
     }
-    options.questions.push(word)?;
-    Ok(false)
+    match options.questions.push(word) {
+        Ok(()) => Ok(false),
+        Err(_) => Err(Failure::NoMemory),
+    }
 }
 
 fn states_of(word: &[u8]) -> Result<usize, Failure> {
