@@ -60,6 +60,7 @@ NAMED = re.compile(r"`[\w/.-]+\.\w+`")
 # The first words of blocks that nothing runs, with the reason.
 LEFT = {
     "README.md": {"keyboard    a": DRAWING, "tools/build.py &&": BUILD},
+    "docs/reference/explore.md": {"explore [--json]": USAGE},
     "docs/reference/redraw.md": {"redraw 25 80": USAGE, "modes that the rows need": "the order of the parts of a text"},
     "docs/reference/review.md": {"A E display N": FORM},
     "docs/reference/watch.md": {"watch < FILE": USAGE, "now: front F": FORM},
