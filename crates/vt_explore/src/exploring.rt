@@ -54,15 +54,14 @@ pub fn explore<Q: Question>(
             Tried::Known => {}
         }
     }
-    let states = search.len();
-    if states <= limit {
+    if search.has_at_most(limit) {
         return Ok(Outcome {
             answer: Answer::Never,
-            states,
+            states: search.len(),
         });
     }
     Ok(Outcome {
         answer: Answer::Limit,
-        states,
+        states: search.len(),
     })
 }

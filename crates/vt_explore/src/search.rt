@@ -1,4 +1,5 @@
 ghost use Rattle.std.specs.Prelude.{◌≡◌, ◌≤◌, ◌<◌, ℕ, List, [], ◌∷◌, Some, IsTrue, IfOk, OnOk, slice_get, length};
+ghost use Rattle.std.specs.Bool.{OnFalse, OnTrue};
 ghost use Rattle.session_order.specs.Orders.{history_of};
 ghost use Rattle.session_order.specs.Sessions.{setup_of};
 ghost use Rattle.vt_events.specs.declared.entry.Entry.{Entry};
@@ -51,6 +52,14 @@ impl Search {
         ensures { result ≡ length self.now }
     {
         self.orders.len()
+    }
+
+    /// Whether there are at most so many orders.
+    pub(crate) fn has_at_most(&self, n: usize) -> bool
+        ensures few { OnTrue result (length self.now ≤ n) }
+        ensures many { OnFalse result (n < length self.now) }
+    {
+        self.orders.len() <= n
     }
 
     /// A copy of the order at this place, if there is one.

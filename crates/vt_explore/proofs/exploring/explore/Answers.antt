@@ -1,6 +1,7 @@
-use Rattle.std.proofs.Common.{◌≡◌, ℕ, ◌+◌, List, [], ◌∷◌, Some, None, arith, refl, sym, ap, ◌∙◌, subst}
+use Rattle.std.proofs.Common.{◌≡◌, ℕ, ◌+◌, ◌≤◌, List, [], ◌∷◌, length, Some, None, arith, refl, sym, ap, ◌∙◌, subst}
 use Rattle.vt_explore.proofs.Journals.{found_in_histories, never_in_histories}
 use Rattle.vt_explore.proofs.Likes.{alike_same}
+use Rattle.std.specs.Bool.{OnTrue}
 use Rattle.std.specs.Prelude.{slice_get}
 use Rattle.vt_explore.proofs.Nevers.{get_past, like_longer, never_from, opened_more}
 use Rattle.vt_explore.specs.Alike.{HasLike}
@@ -51,12 +52,13 @@ returns-in-Found-clause-right g c =
     found_in_histories c.order_laws.ensures.legal c.legal_grows.ensures.replay wants c.args.s.now c.in-Found.found
     (subst (λ t. IfFound t (EndsAsked wants (setup_of c.args.s.now))) c.in-Found.is c.in_ok-tried.ensures.found)
 
-pub returns-then-states-clause-right : goal.returns-then-states-clause-right
-returns-then-states-clause-right g c =
+pub returns-then-has_at_most-clause-right : goal.returns-then-has_at_most-clause-right
+returns-then-has_at_most-clause-right g c =
     let wants : Wants = g.Q.Question.wants c.args.question.now in
     let o : Setup = setup_of c.args.s.now in
     let none : slice_get c.loop-next.search c.args.limit ≡ None =
-    get_past c.loop-next.search c.args.limit (omega (arith, c.len.ensures, c.if-states.true)) in
+    get_past c.loop-next.search c.args.limit
+    (subst (λ is. OnTrue is (length c.loop-next.search ≤ c.args.limit)) c.if-has_at_most.true c.has_at_most.ensures.few) in
     never_in_histories c.order_laws.ensures.turns c.meant_laws.ensures.replay c.legal_grows.ensures.replay wants
     c.args.s.now c.session_laws.ensures.setup
     (never_from wants o c.loop-next.search c.args.limit c.loop-next.invariant.start

@@ -6,20 +6,20 @@ use Rattle.session_order.specs.Sessions.{setup_of}
 use Rattle.vt_explore.proofs.search.Search.enter.Goals as goal
 
 pub returns-then-branch-clause-grows : goal.returns-then-branch-clause-grows
-returns-then-branch-clause-grows g c = extends_same c.args.self.now
+returns-then-branch-clause-grows c = extends_same c.args.self.now
 
 pub returns-then-branch-clause-known : goal.returns-then-branch-clause-known
-returns-then-branch-clause-known g c =
+returns-then-branch-clause-known c =
     c.in_ok-knows.ensures c.if-branch.true (history_of (setup_of c.args.s.now) c.args.order) c.requires.machine
 
 pub returns-clause-grows : goal.returns-clause-grows
-returns-clause-grows g c = record {
+returns-clause-grows c = record {
   more = c.args.order ∷ [];
   is = c.in_ok-push.ensures.items ∙ ap (λ known. known ++ c.args.order ∷ []) c.self.view_is;
 }
 
 pub returns-clause-known : goal.returns-clause-known
-returns-clause-known g c =
+returns-clause-known c =
     subst (λ known. HasLike (setup_of c.args.s.now) known (history_of (setup_of c.args.s.now) c.args.order))
     (sym (c.in_ok-push.ensures.items ∙ ap (λ known. known ++ c.args.order ∷ []) c.self.view_is))
     (like_itself (setup_of c.args.s.now) c.args.self.now c.args.order (history_of (setup_of c.args.s.now) c.args.order) refl)

@@ -9,7 +9,7 @@ use Rattle.session_order.specs.Sessions.{setup_of}
 use Rattle.vt_explore.proofs.search.Search.is_like.Goals as goal
 
 pub returns : goal.returns
-returns g c = λ yes h at.
+returns c = λ yes h at.
     let o : Setup = setup_of c.args.s.now in
     let order : List ℕ = c.in-Some.order.now in
     let orders : List (List ℕ) = c.deref.result.now in
