@@ -22,5 +22,5 @@ returns c = λ yes h at.
           (slice_get_read orders (length orders) c.args.place order refl c.in-Some.ensures.lookup.3.0 c.in-Some.ensures.lookup.1);
       alike =
           alike_of_same o (history_of o order) h c.in_ok-other.other c.args.machine.now c.session_laws.ensures.programs
-          there at (c.same.ensures yes);
+          there at (c.same-is_same.ensures yes);
     }
