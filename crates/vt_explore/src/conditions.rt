@@ -145,7 +145,14 @@ fn is_ended(after: &World) -> bool
     ensures { result ≡ is_ended after.now }
 {
     let callers = CallerNo::all();
-    !callers.iter().any(|p| lives(after, p))
+    !any_lives(after, &callers)
+}
+
+// Whether one of these callers is alive.
+fn any_lives(after: &World, callers: &[CallerNo]) -> bool
+    ensures { result ≡ list_any (is_live after.now.callers) callers.now }
+{
+    callers.iter().any(|p| lives(after, p))
 }
 
 fn lives(after: &World, p: &CallerNo) -> bool
