@@ -92,7 +92,10 @@ fn numbers_at(
         }
         if !phrase.has(end, b"*") {
             let number = parse_decimal(phrase.at(end), most)?;
-            add(numbers, place as u8, number);
+            let Ok(place) = u8::try_from(place) else {
+                return None;
+            };
+            add(numbers, place, number);
         }
         end = end.saturating_add(1);
     }
