@@ -1,8 +1,6 @@
 //! Functions that the tests share. Rows are texts and numbers alone, helpers have no clauses, and no `?` stands
 //! after a machine or a session is made, since each would have to drop it: so a test is proved in seconds.
-mod copies;
 mod deaths;
-mod machines;
 mod marks;
 mod row;
 mod seen;
