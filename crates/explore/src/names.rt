@@ -117,10 +117,10 @@ fn hidden_at(
     at: usize,
     all: &mut Vec<Condition>,
 ) -> Result<Option<usize>, NoMemory> {
-    let call = if phrase.has(at, b"blind") {
-        call_of(Kind::Write)
+    let (call, answer) = if phrase.has(at, b"blind") {
+        (call_of(Kind::Write), AnswerKind::Num)
     } else if phrase.has(at, b"false-ack") {
-        acknowledgement()
+        (acknowledgement(), AnswerKind::Done)
     } else {
         return Ok(None);
     };
@@ -130,7 +130,7 @@ fn hidden_at(
     let Some(n) = console_of(phrase.at(at.saturating_add(2))) else {
         return Ok(None);
     };
-    add_hidden(all, call, p, n)?;
+    add_hidden(all, call, answer, p, n)?;
     Ok(Some(at.saturating_add(3)))
 }
 
@@ -147,13 +147,14 @@ fn acknowledgement() -> Fact {
 fn add_hidden(
     all: &mut Vec<Condition>,
     call: Fact,
+    answer: AnswerKind,
     p: CallerNo,
     n: ConsoleNo,
 ) -> Result<(), NoMemory> {
     all.push(yes(Fact::By(p)))?;
     all.push(yes(call))?;
     all.push(yes(Fact::Answer(AnswerPattern {
-        kind: AnswerKind::Done,
+        kind: answer,
         numbers: ShortList::new(),
     })))?;
     all.push(no(Fact::Front(n)))?;
