@@ -4,8 +4,9 @@
 usage: tools/build.py [--jobs N] [--out FOLDER] [--modules FOLDER] [PART ..]
 
 PART is vt, watch, picture, redraw, explore, cases (which answers the worked cases of crates/cases) or c (the C
-library). Without one, all are built, and c only if there is a C compiler. FOLDER (out in the clone) gets the programs
-as FOLDER/bin/PART, and the library as FOLDER/c, in the folders of libvt/tools/build_c.sh. A part whose sources are those
+library, and vtrun, which stands on it). Without one, all are built, and c only if there is a C compiler. FOLDER (out in
+the clone) gets the programs as FOLDER/bin/PART, and the library as FOLDER/c, in the folders of
+libvt/tools/build_c.sh. A part whose sources are those
 of its last build stays. If FOLDER/c has a library that was proved, that stays. FOLDER/bin/BUILD and FOLDER/c/BUILD name
 what was built, of which commit, and by which toolchain.
 
@@ -36,7 +37,7 @@ sys.dont_write_bytecode = True
 
 from programs import TOP  # noqa: E402: after the line that keeps tools/ clean
 from tool_files import Stop, reason  # noqa: E402
-from unproved.compiler import LEVEL, Compiler, link_library, stop_all  # noqa: E402
+from unproved.compiler import LEVEL, Compiler, build_vtrun, link_library, stop_all  # noqa: E402
 from unproved.crates import PARTS, has_c, rows, source_files, toolchain, toolchain_name  # noqa: E402
 from unproved.module import Module  # noqa: E402
 
@@ -177,6 +178,8 @@ def build(given):
         kept.parts[part] = {"sum": sums[part], "line": line}
         kept.write()
         say(f"{kept.place(part)} ({count} of {len(wanted)})")
+    if "c" in given.parts:
+        say(build_vtrun(given.out))
     say(END)
 
 

@@ -1,5 +1,5 @@
 #!/bin/sh
-# Installs the programs, the C library, its header, the users' tools and the manual pages, as they were built.
+# Installs the programs, the C library, its header, vtrun, the users' tools and the manual pages, as they were built.
 #
 # usage: tools/install.sh [--unproved] PREFIX [LIBDIR=FOLDER] [DESTDIR=FOLDER]
 #
@@ -118,6 +118,15 @@ put_library() {
     esac
 }
 
+# vtrun stands on the library: it is installed with it.
+put_vtrun() {
+    if [ -f "$top/out/bin/vtrun" ]; then
+        put 755 "$prefix/bin" "$top/out/bin/vtrun"
+    else
+        echo "install.sh: vtrun isn't built, and is left out: vtrun/build.sh makes it" >&2
+    fi
+}
+
 put_tools() {
     files=$("$top/tools/user_tools.py")
     for file in $files; do
@@ -147,7 +156,7 @@ done
 [ -n "$found" ] ||
     stop "nothing that may be installed is built: rt run in crates/vt makes the program," \
         "libvt/tools/build_c.sh the library"
-[ -z "$library" ] || put_library "$library"
+[ -z "$library" ] || { put_library "$library"; put_vtrun; }
 put_tools
 for page in "$top"/man/*.[1-9]; do
     put 644 "$prefix/share/man/man${page##*.}" "$page"

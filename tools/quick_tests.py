@@ -34,11 +34,12 @@ LIBRARY = TOP / "out/c/lib/libvt.a"
 SECONDS = 300
 SHOWN_LINES = 25
 OF_C = "header,codes,cuts,outs,memory,threads,keys,faults,terminal,python,install,guide"
-OVER_LIBRARY = ("check_c.py", "check_expect.py", "check_python.py")
+OVER_LIBRARY = ("check_c.py", "check_expect.py", "check_python.py", "check_vtrun.py")
 # The checks, in groups that aren't run side by side: those of a group write the same files. The longest come first.
 CHECKS = [
     ["check_streams.py"],
     ["check_expect.py --damaged 30", "check_python.py"],
+    ["check_vtrun.py"],
     [f"check_c.py --library out/c --runs 200 --only {OF_C}"],
     ["check_timeline.py", "check_explore.py"],
     ["check_pages.py", "check_watch.py 10", "check_keymaps.py 50", "check_why.py 100", "check_blocks.py"],

@@ -10,7 +10,7 @@
 # made), a file of the clone was changed since its commit or since the program was built, or a step failed.
 set -eu
 # (only the programs of this clone)
-unset VT WATCH PICTURE REDRAW
+unset VT WATCH PICTURE REDRAW EXPLORE
 
 stop() {
     echo "release.sh: $*" >&2

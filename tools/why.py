@@ -37,6 +37,7 @@ KEYMAP_CODES = {
     10: "more than 256 compose pairs",
     11: "a string of more than 255 bytes",
     12: "more than 1,000 texts are included",
+    13: "the included texts have more than 4 MiB together",
 }
 TABLE_CODES = {
     20: "no document in TOML 1.1, or not UTF-8",

@@ -43,12 +43,13 @@ ELSEWHERE = {
     "docs/guide/from-libvterm.md": "check_expect.py",
     "docs/guide/embed-a-crate.md": "check_snippets.py",
     "docs/guide/display-server.md": "check_watch.py",
+    "docs/guide/run-real-programs.md": "check_vtrun.py",
     "docs/library/c.md": "check_c.py",
 }
 # What checks the blocks of man/ that have no commands.
 MANUALS = {
     "vt-session.5": "check_pages.py", "vt-keymap.5": "check_pages.py", "vt.3": "check_c.py",
-    "vt-journal.5": f"nothing: {FORM}",
+    "vt-journal.5": f"nothing: {FORM}", "vtrun.1": "check_vtrun.py",
 }  # fmt: skip
 # The tools that check single blocks, by their first words.
 OTHERS = {"docs/guide/write-a-terminal.md": {"import json": "check_pages.py"}}
@@ -63,6 +64,7 @@ LEFT = {
     "docs/reference/explore.md": {"explore [--json]": USAGE},
     "docs/reference/redraw.md": {"redraw 25 80": USAGE, "modes that the rows need": "the order of the parts of a text"},
     "docs/reference/review.md": {"A E display N": FORM},
+    "docs/reference/vtrun.md": {"ok LENGTH": FORM, "def ask(": "check_vtrun.py speaks the protocol with this function"},
     "docs/reference/watch.md": {"watch < FILE": USAGE, "now: front F": FORM},
     "docs/contributing/architecture.md": {
         "src/        one type": "the folders of a crate",
@@ -82,6 +84,11 @@ LEFT = {
         "tools/build.py": BUILD, "PATH=": "check_pages.py sets such a path",
         "tools/copy_crates.py": "a proof of all programs",
         "tools/install.sh": "check_install.py installs into a folder of its own",
+        "dpkg-buildpackage": "libvt/tools/check_packages.sh builds the packages",
+    },
+    "docs/guide/run-real-programs.md": {
+        "PATH=": "check_vtrun.py sets such a path", "vtrun --socket": "it wants a terminal; check_vtrun.py attaches to one",
+        "export SEATD_VTBOUND": "check_vtrun.py runs seatd with other waits", "- run:": "lines of a service's file",
     },
     "docs/guide/test-a-terminal-program.md": {"PATH=": "check_expect.py sets such a path"},
     "docs/guide/tour.md": {"console 1  ====": DRAWING},

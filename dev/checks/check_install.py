@@ -32,7 +32,7 @@ SECONDS = 120
 INSTALLERS = ("install.sh", "release.sh", "user_tools.py", "programs.py", "tool_files.py")
 # What the tools run besides their own programs.
 OTHERS = ("env", "sh", "cat", "sed", "true")
-PAGES = ["man1/vt.1", "man1/vt-tools.1", "man3/vt.3", "man5/vt-session.5", "man5/vt-journal.5", "man5/vt-keymap.5"]
+PAGES = ["man1/vt.1", "man1/vt-tools.1", "man1/vtrun.1", "man3/vt.3", "man5/vt-session.5", "man5/vt-journal.5", "man5/vt-keymap.5"]
 LIBRARY = ("include/vt.h", "lib/libvt.a", "lib/libvt.so.1", "lib/libvt.so", "lib/pkgconfig/vt.pc")
 KEYMAP = "share/vt/keymaps/us.map"
 TEST = """SIZE 2 10
@@ -77,6 +77,9 @@ class Clone:
             (self.top / "out/c/lib/libvt.a").touch()
             word = "proved" if is_proved_there else "not proved"
             (self.top / "out/c/BUILD").write_text(f"libvt: {word}, commit x\n", encoding="utf-8")
+        self.has_vtrun = self.has_library and (TOP / "out/bin/vtrun").exists()
+        if self.has_vtrun:
+            self.copy(TOP / "out/bin/vtrun", "out/bin/vtrun")
         (self.top / "out/bin").mkdir(parents=True, exist_ok=True)
         lines = "".join(f"{name}: not proved, commit x\n" for name in CRATES)
         (self.top / "out/bin/BUILD").write_text(lines, encoding="utf-8")
@@ -118,6 +121,7 @@ def check_files(check, prefix, clone, libdir="lib"):
     names = [*(f"bin/{installed_name(name)}" for name in CRATES), *(f"bin/{name}" for name in user_tools.NAMES)]
     names += [f"share/man/{page}" for page in PAGES]
     names += [name.replace("lib/", f"{libdir}/", 1) for name in (*LIBRARY, KEYMAP) if clone.has_library]
+    names += ["bin/vtrun"] * clone.has_vtrun
     for name in names:
         check.holds((prefix / name).is_file(), f"{name} isn't installed")
     lines = (prefix / "share/vt/BUILD").read_text(encoding="utf-8").splitlines()

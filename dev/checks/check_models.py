@@ -1,5 +1,5 @@
 #!/usr/bin/env python3
-"""Runs Spin on the models of the turn lock (dev/models/README.md), if it is installed.
+"""Runs Spin on the models of dev/models (dev/models/README.md), if it is installed.
 
 usage: check_models.py [--long]
        check_models.py --sums
@@ -60,6 +60,11 @@ ROWS = [
     ("event_count", "MUTATION=EPOCH_READ_LATE", WRONG, True),
     ("event_count", "MUTATION=NO_EPOCH", WRONG, True),
     ("event_count", "MUTATION=PARK_DOES_NOT_COMPARE", WRONG, True),
+    ("display", "", RIGHT, True),
+    ("display", "MUTATION=STAYS_PENDING", WRONG, True),
+    ("display", "NEVER_ENDS_ON=1", WRONG, True),
+    ("display", "NEVER_ENDS_ON=2", WRONG, True),
+    ("display", "NEVER_ENDS_ON=3", WRONG, True),
 ]
 
 # The functions that the models were made from.

@@ -10,8 +10,8 @@ docs/reference/sessions.md and docs/reference/typing.md; its requests of ioctl_c
 rows of docs/reference/compatibility.md, docs/reference/switching.md and docs/reference/journal.md name the same calls
 for them, and vt-journal(5) lists those without. The adapter of docs/guide/write-a-terminal.md answers a case. The lines
 of a journal that docs/guide/tour.md quotes have to stand in examples/tour.journal, in the same order.
-docs/guide/test-a-terminal-program.md is run by dev/checks/check_expect.py, the programs of docs/guide/embed-a-crate.md
-by dev/checks/check_snippets.py, and docs/library/c.md by libvt/tools/check_c.py. Prints a line for each difference. The
+docs/guide/test-a-terminal-program.md is run by dev/checks/check_expect.py, docs/guide/run-real-programs.md by
+dev/checks/check_vtrun.py, the programs of docs/guide/embed-a-crate.md by dev/checks/check_snippets.py, and docs/library/c.md by libvt/tools/check_c.py. Prints a line for each difference. The
 status is 1 if there is one, and 2 if a program isn't built.
 """
 import json
@@ -33,7 +33,7 @@ SECONDS = 60
 # Pages whose commands another check runs, in a folder of their own.
 RUN_ELSEWHERE = (
     "test-a-terminal-program.md", "from-pyte-and-pexpect.md", "from-libvterm.md", "embed-a-crate.md",
-    "display-server.md", "c.md",
+    "display-server.md", "c.md", "run-real-programs.md",
 )  # fmt: skip
 
 

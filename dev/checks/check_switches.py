@@ -115,7 +115,9 @@ def quote_faults():
     """Lines that are quoted below the name of a session, and aren't in its journal."""
     names = {path.stem for path in FOLDER.glob("*.toml")}
     left, name = [], None
-    for number, line in enumerate(GUIDE.read_text(encoding="utf-8").split("\n"), 1):
+    # (below this heading stand commands with what they print, which check_watch.py runs)
+    text = GUIDE.read_text(encoding="utf-8").partition("\n## Every order\n")[0]
+    for number, line in enumerate(text.split("\n"), 1):
         if re.fullmatch(r"    [kp]\d+ \d+ .* = .*", line):
             if line.strip() not in left:
                 yield f"{GUIDE.name}:{number}: not a line of {name}.journal after the lines before: {line.strip()}"

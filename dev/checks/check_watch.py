@@ -1,7 +1,7 @@
 #!/usr/bin/env python3
 """Compares `watch json` of generated sessions with a second reader of journals (dev/checks/second_reader.py).
 
-usage: check_watch.py [COUNT] [--from SEED] [--watch PATH] [--vt PATH]
+usage: check_watch.py [COUNT] [--from SEED] [--free N] [--watch PATH] [--vt PATH]
 
 COUNT sessions (200) are made by dev/checks/switch_sessions.py from the seeds SEED (0) on. Each is played by `vt play`,
 and every fifth is raced by `vt race` as well; the journals are also given to `watch` behind the session without its
@@ -11,6 +11,10 @@ who is in front, who owns which console, what is pending since when, and who wai
 examples/switches and the tour are read too. In the form for a person each entry has to have the same facts. Damaged
 inputs have to end with a status of `vt check` and its line. The lines of `watch` that docs/guide/display-server.md
 quotes have to stand below their entry, in the session named before them, and its commands have to print what it shows.
+
+N free journals (300) are made by dev/checks/free_journals.py, whose second machine answers calls that any caller makes
+at any time, and so many more are damaged: `watch free` has to accept exactly those that the second machine finds legal,
+show what it expects of them, and name the same first entry and reason of the others.
 
 Two sessions of dev/checks/race_sessions.py are compared in the same way and raced several times: one of 64 processes,
 of which 60 wait, and one whose last call ends a wait. A race has SECONDS (60) to end: if a caller whose wait has ended
@@ -36,6 +40,7 @@ sys.path.insert(0, str(pathlib.Path(__file__).resolve().parents[1]))
 from repository import TOP  # noqa: E402: after the folder that it stands in
 from check_hostile import mutated  # noqa: E402
 from check_pages import differences, examples  # noqa: E402
+from free_journals import damaged, end_of, journal, text_of, verdict  # noqa: E402
 from programs import find_for_check, search_path  # noqa: E402
 from race_sessions import last_call_session, longest_row, waiting_session, writing_session  # noqa: E402
 from second_reader import Disagrees, Reader, Unread, entries_of  # noqa: E402
@@ -157,9 +162,9 @@ def first_difference(found, wanted):
     return None
 
 
-def faults_of(watch, given, text, printed, seen):
+def faults_of(watch, given, text, printed, seen, words=()):
     """Why what `watch` prints of this input isn't that of the journal which `vt` printed, or None."""
-    ran = run([watch, "json"], given)
+    ran = run([watch, *words, "json"], given)
     if ran.returncode or ran.stderr:
         return f"status {ran.returncode}, {ran.stderr[:100]!r}"
     try:
@@ -172,9 +177,9 @@ def faults_of(watch, given, text, printed, seen):
     why = first_difference(entries, wanted)
     if why:
         return why
-    if final != printed[printed.index("\n%display ") + 1 :]:
+    if "\n%display " in printed and final != printed[printed.index("\n%display ") + 1 :]:
         return "another final text"
-    shown = run([watch], given).stdout.decode().split("\n")
+    shown = run([watch, *words], given).stdout.decode().split("\n")
     before = f"now: front {Reader(text).front}; owners none; pending none; waits none"
     lines = [before]
     for entry in wanted:
@@ -236,6 +241,27 @@ def taking_turns(vt):
     yield None if is_so else f"races of four writing processes: {rows} entries of one caller in a row"
 
 
+def free_faults(watch, count, seen):
+    """Gives the result of each free journal, and of each damaged one."""
+    for seed in range(count):
+        text, entries = journal(seed)
+        for name, (made, last) in (("free", (entries, end_of(entries))), ("damaged", damaged(seed, entries))):
+            written = text_of(made, last)
+            try:
+                failed = verdict(text, made, last)
+            except Unread as fault:
+                yield f"{name} journal {seed}: the second machine: {fault}"
+                continue
+            if failed is None:
+                why = faults_of(watch, (text + written).encode(), text, written, seen, ["free"])
+            else:
+                ran = run([watch, "free"], (text + written).encode())
+                line = "watch: illegal {} {}\n".format(*failed)
+                is_so = (ran.returncode, ran.stdout, ran.stderr.decode()) == (8, b"", line)
+                why = None if is_so else f"status {ran.returncode}, {ran.stderr[:100]!r}, not {line!r}"
+            yield f"{name} journal {seed}: {why}" if why else None
+
+
 def hostile(watch, vt, count):
     """Damaged inputs."""
     for number in range(count):
@@ -243,12 +269,12 @@ def hostile(watch, vt, count):
         text = session(chance.randrange(200))
         played = run([vt, "play"], text.encode()).stdout.decode()
         given = mutated(chance, (text + journal_part(played)).encode())
-        words = chance.choice([[], ["json"]])
+        words = chance.choice([[], ["json"], ["free"], ["free", "json"]])
         ran = run([watch, *words], given)
         line = LINES.get(ran.returncode)
         if line is None or not re.fullmatch(line, ran.stderr) or (ran.returncode and ran.stdout):
             yield f"damaged input {number}: status {ran.returncode}, {ran.stderr[:100]!r}"
-        elif ran.returncode == 0 and words and not is_whole(ran.stdout):
+        elif ran.returncode == 0 and "json" in words and not is_whole(ran.stdout):
             yield f"damaged input {number}: no JSON of the form"
         else:
             yield None
@@ -295,6 +321,7 @@ def main():
     parser = argparse.ArgumentParser(description="Compares `watch json` with a second reader of journals.")
     parser.add_argument("count", nargs="?", type=int, default=200)
     parser.add_argument("--from", dest="first", type=int, default=0)
+    parser.add_argument("--free", type=int, default=300)
     parser.add_argument("--watch")
     parser.add_argument("--vt")
     args = parser.parse_args()
@@ -308,6 +335,7 @@ def main():
         results += compare(args.watch, args.vt, name, text, races, seen)
     results += waking(args.watch, args.vt, seen)
     results += taking_turns(args.vt)
+    results += free_faults(args.watch, args.free, seen)
     results += hostile(args.watch, args.vt, args.count)
     results += guide_faults(args.vt, args.watch)
     for why in results:

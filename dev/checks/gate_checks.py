@@ -39,12 +39,13 @@ C_LIBRARY = [
 ]
 # What needs the C library that check_c has built.
 BEHIND = [
+    ("check_vtrun", ["dev/checks/check_vtrun.py"]),
     ("check_install", ["dev/checks/check_install.py"]),
     ("check_expect", ["dev/checks/check_expect.py"]),
     ("check_python", ["dev/checks/check_python.py"]),
 ]
 LIBRARY = TOP / "out/c/lib/libvt.so.1"
-OVER_LIBRARY = ("check_expect", "check_python")
+OVER_LIBRARY = ("check_vtrun", "check_expect", "check_python")
 CHECKS = [
     ("check_hostile", ["dev/checks/check_hostile.py"]),
     ("make_conformance --check", ["dev/gen/make_conformance.py", "--check"]),

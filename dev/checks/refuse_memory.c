@@ -94,6 +94,11 @@ static void tell(void)
     }
 }
 
+__attribute__((destructor)) static void end(void)
+{
+    tell();
+}
+
 /* A program that ends by this call runs no destructor. */
 void _exit(int status)
 {

@@ -281,7 +281,7 @@ class Reader:
             wanted = self.done[caller]
         elif name == "getstate" and not answer.startswith("err "):
             wanted = f"state {self.front} {sum(1 << number for number in self.consoles)}"
-        elif name == "reldisp" and answer not in ("err 9", "err 1"):
+        elif name == "reldisp" and answer not in ("err 9", "err 1") and caller not in {*self.waits, *self.done}:
             number = self.console_of(caller, words)
             answered = number == self.front and self.pending is not None
             is_owner = self.consoles[number].owner == caller

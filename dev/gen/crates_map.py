@@ -4,7 +4,8 @@
 usage: dev/gen/crates_map.py --write | --check
 
 The groups and their order are those of crates.txt: a line `# ..` begins a group, and the lines below it are its crates.
-The sentence of a crate is the first one of its root file. The crates of each page of docs/proofs/, in the table at the
+The sentence of a crate is the first one of its root file, and its types are those that its sources declare public; a
+crate with fewer than three has the names of its files too. The crates of each page of docs/proofs/, in the table at the
 top of its README.md, are the sections `## CRATE` of the page. --check compares what stands there, and ends with status
 1 if it differs, if a crate has no line in crates.txt, or if a file that the map names isn't there.
 """
@@ -26,7 +27,9 @@ HEAD = """# Crates
 Each crate is a folder here, and uses only crates above it in this list. The groups are those of
 [crates.txt](../crates.txt), which has the crates that each one names. A name leads to the crate's root file, `proved`
 to what is proved about it, and [Types and calls](../docs/library/api/README.md) has each public call. A **program** is
-marked. `tools/copy_crates.py` copies a crate with all that it needs ([Embed a
+marked. The column "has" names the public types of a crate, and its files if there are fewer than three of them, as in a
+program or a crate of tests. The definitions that contracts cite are in the folder `specs` of each crate.
+`tools/copy_crates.py` copies a crate with all that it needs ([Embed a
 crate](../docs/guide/embed-a-crate.md#1-copy-the-crates)).
 """
 # Where to begin to read: what happens, the call, its file, the section with each step, and what other crates do.
@@ -92,6 +95,22 @@ def sections():
     return found
 
 
+def parts_of(crate):
+    """The public types of a crate; if there are few, its files too, those of its tests if it is a crate of tests."""
+    sources = CRATES / crate / "src"
+    types = set()
+    for file in sources.rglob("*.rt"):
+        types.update(re.findall(r"^pub (?:struct|enum|trait) (\w+)", file.read_text(encoding="utf-8"), re.M))
+    parts = [f"`{name}`" for name in sorted(types)]
+    if len(types) < 3:
+        tests = sources / "tests"
+        files = {file for file in (tests if tests.is_dir() else sources).glob("*.rt")}
+        files |= set((sources / "commands").glob("*.rt"))
+        names = sorted({file.stem for file in files} - {"lib", "main", "laws"})
+        parts += [("files " if i == 0 else "") + f"`{name}`" for i, name in enumerate(names)]
+    return ", ".join(parts)
+
+
 def row_of(crate, proved):
     """The row of a crate."""
     root = root_of(crate)
@@ -102,7 +121,7 @@ def row_of(crate, proved):
     elif root.endswith("main.rt"):
         sentence = f"**program**: {sentence}"
     link = f"[proved](../docs/proofs/{proved[crate]}#{crate})" if crate in proved else ""
-    return f"| [`{crate}`]({root}) | {sentence} | {link} |"
+    return f"| [`{crate}`]({root}) | {sentence} | {parts_of(crate)} | {link} |"
 
 
 def map_text():
@@ -115,7 +134,7 @@ def map_text():
         then = ", ".join(f"[`{it}`]({root_of(it)}) {does}" for it, does in others.items() if (CRATES / it).is_dir())
         parts.append(f"| {when} | {call} in [{file}]({file}) | {then} | [steps]({ARCHITECTURE}#{section}) |")
     for name, crates in groups():
-        parts += ["", f"## {name}", "", "| crate | is | |", "|---|---|---|"]
+        parts += ["", f"## {name}", "", "| crate | is | has | |", "|---|---|---|---|"]
         parts += [row_of(crate, proved) for crate in crates]
     named = {crate for _, crates in groups() for crate in crates}
     for folder in sorted(CRATES.iterdir()):

@@ -79,6 +79,11 @@ void end_drawing(void)
     fflush(stdout);
 }
 
+void draw_status(int row, int cols, const char *text)
+{
+    printf("\033[%d;1H\033[0;30;47m%-*.*s", row + 1, cols, cols, text);
+}
+
 bool draw_screen(struct vt_screen *screen, bool is_whole)
 {
     struct vt_state state;

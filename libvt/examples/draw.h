@@ -9,6 +9,9 @@
 void begin_drawing(const struct vt_screen *screen);
 void end_drawing(void);
 
+/* Draws a text in a row of its own, counted from 0, before the next screen. */
+void draw_status(int row, int cols, const char *text);
+
 /* Draws the rows that changed since the last time, or all of them, and the cursor. False: a write failed. */
 bool draw_screen(struct vt_screen *screen, bool is_whole);
 

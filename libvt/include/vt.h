@@ -1,11 +1,11 @@
-/* vt.h: the screen machine and the keyboard of the Linux text console, as a C library. C99, C11, C++11 and later.
+/* vt.h: the screen, the keyboard and the machine of the Linux text console, as a C library. C99, C11, C++11 and later.
  *
  * vt(3) and docs/library/c.md describe the calls with examples. These rules hold for every call.
  *
  * Handles
- * - A handle is a struct of one pointer: `struct vt_screen` for a screen, `struct vt_keys` for a keyboard. Set it to
- *   {0} before its first use; after that only the calls of this header change it. `new` on a handle with other contents
- *   is undefined.
+ * - A handle is a struct of one pointer: `struct vt_screen` for a screen, `struct vt_keys` for a keyboard, `struct
+ *   vt_machine` for a machine. Set it to {0} before its first use; after that only the calls of this header change it.
+ *   `new` on a handle with other contents is undefined.
  * - A handle may be moved: copy its bytes to another place, and don't use the old place again.
  * - `free` makes a handle {0} again. `free` on {0} does nothing. Every other call on {0} returns VT_NOTHING.
  *
@@ -52,13 +52,14 @@ uint32_t vt_version(void);
 /* What a call returns. */
 enum vt_code {
     VT_OK = 0,
-    VT_MADE = 1,          /* the handle has something already */
+    VT_MADE = 1,          /* the handle has something already, or the process is in use */
     VT_RANGE = 2,         /* a number is out of its range */
     VT_NO_MEMORY = 3,
     VT_NOTHING = 4,       /* the handle has nothing: it was never made, or it was freed */
-    VT_NO_ROOM = 5,       /* the room is too small; only the length was written */
+    VT_NO_ROOM = 5,       /* the room is too small; only the length was written, if the call gives one */
     VT_FAULT = 6,         /* the keymap has a fault */
-    VT_NOT_DRAWABLE = 7   /* no text draws this screen */
+    VT_NOT_DRAWABLE = 7,  /* no text draws this screen */
+    VT_FULL = 8           /* the journal has no room for the call */
 };
 
 /* ---- A screen (console_codes(4)) ---- */
@@ -97,6 +98,10 @@ enum {
     VT_HALF = 0x110000,   /* the right half of a character of two columns */
     VT_FONT = 0xF000      /* the first place of the font */
 };
+
+/* How many columns the character of a code takes: 1 or 2, or 0 for one that joins the character before it, which a
+ * screen drops. */
+uint8_t vt_columns(uint32_t code);
 
 /* A character, and the attribute byte of a VGA text cell: the colour of the character in the low half, that of the
  * background in the high half. A colour is the sum of blue 1, green 2, red 4, bright 8. 8 bytes. */
@@ -166,8 +171,12 @@ uint8_t vt_screen_cell(const struct vt_screen *s, uint32_t row, uint32_t col, st
  * VT_NOTHING. */
 uint8_t vt_screen_row(const struct vt_screen *s, uint32_t row, struct vt_cell *cells, size_t room);
 
+/* All cells, row by row from the top left: as many as the screen has and as there is room for; the other places stay.
+ * The cell of a row and a column is cells[row * cols + col]. VT_NOTHING. */
+uint8_t vt_screen_cells(const struct vt_screen *s, struct vt_cell *cells, size_t room);
+
 /* The characters of a row in UTF-8, at most 4 bytes for a column. *length is how long that is, at VT_OK and
- * VT_NO_ROOM. VT_RANGE, VT_NO_MEMORY, VT_NOTHING, VT_NO_ROOM. */
+ * VT_NO_ROOM. VT_RANGE, VT_NOTHING, VT_NO_ROOM. */
 uint8_t vt_screen_row_text(const struct vt_screen *s, uint32_t row, uint8_t *text, size_t room, size_t *length);
 
 /* Remembers the cells as they are, in place of those that it remembered before: the mark. VT_NO_MEMORY, VT_NOTHING. */
@@ -187,6 +196,9 @@ uint8_t vt_screen_set_colour(struct vt_screen *s, uint32_t number, uint8_t red, 
 /* Sets the user's table of characters (ESC ( K): a code for each byte. VT_NOTHING. */
 uint8_t vt_screen_set_user(struct vt_screen *s, const uint16_t words[256]);
 
+/* The most bytes of the text of a redraw, for a screen of so many rows and columns. */
+#define VT_REDRAW_MOST(rows, cols) ((size_t)(rows) * (18 * (size_t)(cols) + 8) + 26 * (size_t)(cols) + 377)
+
 /* The text that draws this screen on any terminal of its size that runs the sequences of console_codes(4) and waits for
  * no more of one. *length is how long it is, at VT_OK and VT_NO_ROOM. VT_NOT_DRAWABLE, VT_NO_MEMORY, VT_NOTHING,
  * VT_NO_ROOM. */
@@ -195,6 +207,29 @@ uint8_t vt_screen_redraw(const struct vt_screen *s, uint8_t *text, size_t room, 
 /* The same for a terminal that shows the cells of the mark: only rows that differ are in the text. Without a mark it is
  * the text of vt_screen_redraw. */
 uint8_t vt_screen_redraw_changes(const struct vt_screen *s, uint8_t *text, size_t room, size_t *length);
+
+/* What no text makes. In place of it a near redraw makes what stands behind the colon. The calls of this header make
+ * screens with the first two alone. */
+enum vt_left_out {
+    VT_LEFT_CELLS = 1,    /* a cell with half a character of two columns, or without a character that prints itself, as
+                             a control character (80 to 9F) that a byte table made: U+FFFD in its colours */
+    VT_LEFT_SAVED = 4,    /* a saved cursor outside the screen, after a resize: one in the last row or column */
+    VT_LEFT_COLOURS = 2,  /* a bright colour of the pen, of the default pair or of the saved pen: the colour */
+    VT_LEFT_REGION = 8,   /* a region of one row: the whole screen */
+    VT_LEFT_ORIGIN = 16,  /* origin mode with the cursor outside the region: no origin mode */
+    VT_LEFT_HIGH_BIT = 32 /* a changed high bit outside the null mapping: the high bit as it is */
+};
+
+/* What no text makes of this screen: *parts is a sum of enum vt_left_out. It is 0 exactly if vt_screen_redraw doesn't
+ * return VT_NOT_DRAWABLE. VT_NOTHING. */
+uint8_t vt_screen_left_out(const struct vt_screen *s, uint32_t *parts);
+
+/* vt_screen_redraw of the nearest screen that a text draws: this screen, except the parts that vt_screen_left_out
+ * tells. VT_NO_MEMORY, VT_NOTHING, VT_NO_ROOM. */
+uint8_t vt_screen_redraw_near(const struct vt_screen *s, uint8_t *text, size_t room, size_t *length);
+
+/* vt_screen_redraw_changes of that screen. VT_NO_MEMORY, VT_NOTHING, VT_NO_ROOM. */
+uint8_t vt_screen_redraw_changes_near(const struct vt_screen *s, uint8_t *text, size_t room, size_t *length);
 
 /* The screen as a picture in SVG 1.1. *length is how long its text is, at VT_OK and VT_NO_ROOM. VT_NO_MEMORY,
  * VT_NOTHING, VT_NO_ROOM. */
@@ -291,8 +326,8 @@ struct vt_pair {
 };
 
 /* Compiles a keymap text, which may include the other texts, for a keyboard with no key down. If two texts have one
- * name, the first counts. At most 1,000 texts are included, a text as often as it is named, so bound the texts of a
- * keymap that you don't trust. VT_FAULT: the first fault is in *fault. VT_MADE, VT_NO_MEMORY. */
+ * name, the first counts. At most 1,000 texts are included (fault 12), with at most 4,194,304 bytes together (fault
+ * 13), and a text counts as often as it is included. VT_FAULT: the first fault is in *fault. VT_MADE, VT_NO_MEMORY. */
 uint8_t vt_keys_new(struct vt_keys *k, const uint8_t *text, size_t n, const struct vt_text *texts, size_t count,
                     struct vt_fault *fault);
 
@@ -340,6 +375,149 @@ uint8_t vt_keys_pairs(const struct vt_keys *k, struct vt_pair *pairs, size_t roo
 
 /* Sets the pairs (KDSKBDIACRUC). VT_RANGE: more than 256, or a number above 65535. VT_NOTHING. */
 uint8_t vt_keys_set_pairs(struct vt_keys *k, const struct vt_pair *pairs, size_t count);
+
+/* ---- A machine: all consoles, and the processes that share them (ioctl_console(2)) ----
+ *
+ * A machine takes the calls of its callers one at a time and answers each as a console does. Callers 0 and 65 to 67
+ * are keyboards, 1 to 64 processes. It writes down every call with its answer: the journal (vt-journal(5)), which is a
+ * legal history of the machine from its start, whatever calls are made. */
+
+/* A handle of a machine. */
+struct vt_machine {
+    void *at;
+};
+
+/* How a machine starts. 48 bytes. */
+struct vt_start {
+    uint64_t consoles;    /* those that are allocated: bit n stands for console n, 1 to 63 */
+    uint64_t bytes;       /* the most bytes of the journal's text, 0 to 1,073,741,824 */
+    uint32_t events;      /* the most entries of the journal, 0 to 1,000,000 */
+    uint16_t rows, cols;  /* of every screen, 1 to 255 */
+    uint8_t front;        /* the console in front: one that is allocated */
+    uint8_t keyboards;    /* 1 to 4 */
+    uint8_t spare[22];
+};
+
+/* A process: its home, 1 to 63 or 0 for none, and 1 if it is privileged. 8 bytes. */
+struct vt_seat {
+    uint8_t home, privileged;
+    uint8_t spare[6];
+};
+
+/* The kinds of answers, by their words in a journal. */
+enum vt_reply_kind {
+    VT_REPLY_OK = 0,
+    VT_REPLY_NUM = 1,     /* `number` */
+    VT_REPLY_STATE = 2,   /* `number` is the console in front; `mask` has bit n for each allocated console n */
+    VT_REPLY_BYTES = 3,   /* `length` bytes */
+    VT_REPLY_MODE = 4,    /* `words`: mode, waitv, relsig, acqsig, frsig */
+    VT_REPLY_ACT = 5,     /* `words`: the kind and the value of a key's action */
+    VT_REPLY_WAIT = 6,    /* the caller waits: ask vt_machine_wait, and then make the call `waitend` */
+    VT_REPLY_SIGS = 7,    /* `mask`: bit s - 1 for signal s */
+    VT_REPLY_ERR = 8      /* `number` is the errno of Linux on x86-64 */
+};
+
+/* An answer. What its kind doesn't name is 0. 48 bytes. */
+struct vt_reply {
+    uint64_t mask;
+    uint32_t length;
+    uint32_t number;
+    uint16_t words[6];
+    uint8_t kind;
+    uint8_t spare[19];
+};
+
+/* The kinds of marks. */
+enum vt_mark_kind {
+    VT_MARK_ASKED = 1,    /* somebody asked for console `a` */
+    VT_MARK_RAISED = 2,   /* signal `b` was raised to caller `a` */
+    VT_MARK_HOPPED = 3,   /* the display went from console `a` to `b`; `cause` is 0 if nobody had to let it go, p if
+                             process p did, 128 + p if process p died */
+    VT_MARK_ENDED = 4     /* caller `a` ended */
+};
+
+/* What a call caused. 8 bytes. */
+struct vt_mark {
+    uint8_t kind, a, b, cause;
+    uint8_t spare[4];
+};
+
+/* The display and the journal. 40 bytes. */
+struct vt_display {
+    uint64_t hops;        /* the switches so far */
+    uint64_t gone;        /* the entries that vt_machine_forget took */
+    uint32_t entries;     /* the entries of the journal */
+    uint8_t front;        /* the console in front */
+    uint8_t pending;      /* the console that waits for the display, or 0 */
+    uint8_t locked;       /* 1 if switching is locked */
+    uint8_t spare[17];
+};
+
+/* A console. 32 bytes. */
+struct vt_console {
+    uint32_t bells;       /* BELs so far */
+    uint32_t queued;      /* bytes in its input queue */
+    uint16_t rows, cols, y, x;
+    uint8_t owner;        /* the process that handles its switches, or 0 */
+    uint8_t graphics;     /* 1 if it is in KD_GRAPHICS */
+    uint8_t visible;      /* 1 if its cursor is shown */
+    uint8_t spare[13];
+};
+
+/* The states of a caller's wait. */
+enum vt_wait { VT_WAIT_NONE = 0, VT_WAIT_OPEN = 1, VT_WAIT_DONE = 2, VT_WAIT_BROKEN = 3 };
+
+/* Makes a machine with the tables of a keymap text (keymaps(5)), which includes nothing, with `count` processes, 64 at
+ * most, and an empty journal. VT_FAULT: the first fault of the keymap is in *fault. VT_MADE, VT_RANGE, VT_NO_MEMORY. */
+uint8_t vt_machine_new(struct vt_machine *m, const struct vt_start *start, const struct vt_seat *seats, size_t count,
+                       const uint8_t *keymap, size_t n, struct vt_fault *fault);
+
+/* Frees what the handle has. */
+void vt_machine_free(struct vt_machine *m);
+
+/* Gives a process to a program with this home and privilege. A process that has made no call has them from now on, as
+ * if it had started so. One that has made calls must be alive, have nothing open, no signal pending and no wait, accept
+ * no key signal, handle no switches, and have started with the same home and privilege: then nothing changes. VT_MADE:
+ * it is no such process. VT_RANGE: it isn't one of the start, or a number is out of its range. VT_NOTHING. */
+uint8_t vt_machine_admit(struct vt_machine *m, uint32_t process, const struct vt_seat *seat);
+
+/* Makes a call of a caller, 0 to 67. `name` is its name in a journal (vt-journal(5)), with a null byte at its end;
+ * `numbers` are its numbers in the order of its words, `held` its bytes, if it has bytes, else n is 0. The answer goes
+ * into *reply, and its bytes into the first places of `bytes`; the other places stay. VT_RANGE: no such caller, name or
+ * words. VT_NO_ROOM: the answer may need more than `room` bytes; 260,100 are always enough. VT_FULL: the journal has no
+ * room, or the caller has made 4,294,967,295 calls. VT_NO_MEMORY, VT_NOTHING. */
+uint8_t vt_machine_call(struct vt_machine *m, uint32_t caller, const char *name, const uint16_t *numbers, size_t count,
+                        const uint8_t *held, size_t n, struct vt_reply *reply, uint8_t *bytes, size_t room);
+
+/* Empties the journal. The machine goes on. VT_NOTHING. */
+uint8_t vt_machine_forget(struct vt_machine *m);
+
+/* What the last call caused, in order: as many marks as there is room for; the other places stay. *count is how many
+ * there are. VT_NOTHING. */
+uint8_t vt_machine_marks(const struct vt_machine *m, struct vt_mark *marks, size_t room, size_t *count);
+
+/* The state of a caller's wait: enum vt_wait. VT_RANGE, VT_NOTHING. */
+uint8_t vt_machine_wait(const struct vt_machine *m, uint32_t caller, uint8_t *wait);
+
+/* The display and the journal's numbers. VT_NOTHING. */
+uint8_t vt_machine_display(const struct vt_machine *m, struct vt_display *display);
+
+/* A console, 1 to 63. VT_RANGE: also if it isn't allocated. VT_NOTHING. */
+uint8_t vt_machine_console(const struct vt_machine *m, uint32_t n, struct vt_console *console);
+
+/* The cells of a row of a console, as vt_screen_row. VT_RANGE, VT_NOTHING. */
+uint8_t vt_machine_row(const struct vt_machine *m, uint32_t n, uint32_t row, struct vt_cell *cells, size_t room);
+
+/* The text that draws a console's screen, as vt_screen_redraw. VT_RANGE, VT_NOT_DRAWABLE, VT_NO_MEMORY, VT_NOTHING,
+ * VT_NO_ROOM. */
+uint8_t vt_machine_redraw(const struct vt_machine *m, uint32_t n, uint8_t *text, size_t room, size_t *length);
+
+/* The line of an entry of the journal, counted from 0, with its line feed. VT_RANGE, VT_NO_MEMORY, VT_NOTHING,
+ * VT_NO_ROOM. */
+uint8_t vt_machine_entry(const struct vt_machine *m, uint32_t index, uint8_t *text, size_t room, size_t *length);
+
+/* The journal's text in version 2. VT_NO_MEMORY, VT_NOTHING, VT_NO_ROOM. */
+uint8_t vt_machine_journal(const struct vt_machine *m, uint8_t *text, size_t room, size_t *length);
 
 #ifdef __cplusplus
 }

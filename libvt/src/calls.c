@@ -5,9 +5,12 @@
  *   and any number of such calls may run at once. No loan is kept, and each goes to one call.
  * - The proved calls want pointers that aren't null, also if the length is 0. They get an address that nobody follows.
  * - The proved calls have the pairs of compose keys as bytes: four for each number, the lowest first, as on x86-64.
+ * - The proved calls have the name of a call as its bytes and their number: strlen counts them.
  *
  * Nothing else is done here. */
 #include "vt.h"
+
+#include <string.h>
 
 /* The proved calls that want pointers that aren't null. */
 uint8_t vt_nonnull_screen_feed(struct vt_screen *s, const uint8_t *bytes, size_t n, struct vt_out *outs, size_t room,
@@ -18,20 +21,38 @@ uint8_t vt_nonnull_keys_new(struct vt_keys *k, const uint8_t *text, size_t n, co
 uint8_t vt_nonnull_keys_set_string(struct vt_keys *k, uint32_t number, const uint8_t *text, size_t n);
 uint8_t vt_nonnull_keys_set_pairs(struct vt_keys *k, const uint8_t *bytes, size_t n);
 
+uint8_t vt_nonnull_machine_new(struct vt_machine *m, const struct vt_start *start, const struct vt_seat *seats,
+                               size_t count, const uint8_t *keymap, size_t n, struct vt_fault *fault);
+uint8_t vt_nonnull_machine_call(struct vt_machine *m, uint32_t caller, const uint8_t *name, size_t length,
+                                const uint16_t *numbers, size_t count, const uint8_t *held, size_t n,
+                                struct vt_reply *reply, uint8_t *bytes, size_t room);
+
 /* The proved calls that take a loan. A loan is laid out as a handle is. */
 uint8_t vt_lent_screen_state(struct vt_screen *loan, struct vt_state *state);
 uint8_t vt_lent_screen_cell(struct vt_screen *loan, uint32_t row, uint32_t col, struct vt_cell *cell);
 uint8_t vt_lent_screen_row(struct vt_screen *loan, uint32_t row, struct vt_cell *cells, size_t room);
+uint8_t vt_lent_screen_cells(struct vt_screen *loan, struct vt_cell *cells, size_t room);
 uint8_t vt_lent_screen_row_text(struct vt_screen *loan, uint32_t row, uint8_t *text, size_t room, size_t *length);
 uint8_t vt_lent_screen_changed(struct vt_screen *loan, uint8_t *rows, size_t room);
 uint8_t vt_lent_screen_palette(struct vt_screen *loan, struct vt_colour *colours, size_t room);
 uint8_t vt_lent_screen_redraw(struct vt_screen *loan, uint8_t *text, size_t room, size_t *length);
 uint8_t vt_lent_screen_redraw_changes(struct vt_screen *loan, uint8_t *text, size_t room, size_t *length);
+uint8_t vt_lent_screen_redraw_near(struct vt_screen *loan, uint8_t *text, size_t room, size_t *length);
+uint8_t vt_lent_screen_redraw_changes_near(struct vt_screen *loan, uint8_t *text, size_t room, size_t *length);
+uint8_t vt_lent_screen_left_out(struct vt_screen *loan, uint32_t *parts);
 uint8_t vt_lent_screen_picture(struct vt_screen *loan, uint8_t *text, size_t room, size_t *length);
 uint8_t vt_lent_keys_string(struct vt_keys *loan, uint32_t number, uint8_t *text, size_t room, size_t *length);
 uint8_t vt_lent_keys_entry(struct vt_keys *loan, uint32_t table, uint32_t keycode, struct vt_action *action);
 uint8_t vt_lent_keys_keycode(struct vt_keys *loan, uint32_t scan, uint32_t *keycode);
 uint8_t vt_lent_keys_pairs(struct vt_keys *loan, uint8_t *bytes, size_t room, size_t *length);
+uint8_t vt_lent_machine_marks(struct vt_machine *loan, struct vt_mark *marks, size_t room, size_t *count);
+uint8_t vt_lent_machine_wait(struct vt_machine *loan, uint32_t caller, uint8_t *wait);
+uint8_t vt_lent_machine_display(struct vt_machine *loan, struct vt_display *display);
+uint8_t vt_lent_machine_console(struct vt_machine *loan, uint32_t n, struct vt_console *console);
+uint8_t vt_lent_machine_row(struct vt_machine *loan, uint32_t n, uint32_t row, struct vt_cell *cells, size_t room);
+uint8_t vt_lent_machine_redraw(struct vt_machine *loan, uint32_t n, uint8_t *text, size_t room, size_t *length);
+uint8_t vt_lent_machine_entry(struct vt_machine *loan, uint32_t index, uint8_t *text, size_t room, size_t *length);
+uint8_t vt_lent_machine_journal(struct vt_machine *loan, uint8_t *text, size_t room, size_t *length);
 
 /* A place for pointers without a length, at an address that every type may have. */
 static max_align_t nowhere;
@@ -80,6 +101,12 @@ uint8_t vt_screen_row(const struct vt_screen *s, uint32_t row, struct vt_cell *c
     return vt_lent_screen_row(&loan, row, written_at(cells), room);
 }
 
+uint8_t vt_screen_cells(const struct vt_screen *s, struct vt_cell *cells, size_t room)
+{
+    struct vt_screen loan = *s;
+    return vt_lent_screen_cells(&loan, written_at(cells), room);
+}
+
 uint8_t vt_screen_row_text(const struct vt_screen *s, uint32_t row, uint8_t *text, size_t room, size_t *length)
 {
     struct vt_screen loan = *s;
@@ -108,6 +135,24 @@ uint8_t vt_screen_redraw_changes(const struct vt_screen *s, uint8_t *text, size_
 {
     struct vt_screen loan = *s;
     return vt_lent_screen_redraw_changes(&loan, written_at(text), room, length);
+}
+
+uint8_t vt_screen_redraw_near(const struct vt_screen *s, uint8_t *text, size_t room, size_t *length)
+{
+    struct vt_screen loan = *s;
+    return vt_lent_screen_redraw_near(&loan, written_at(text), room, length);
+}
+
+uint8_t vt_screen_redraw_changes_near(const struct vt_screen *s, uint8_t *text, size_t room, size_t *length)
+{
+    struct vt_screen loan = *s;
+    return vt_lent_screen_redraw_changes_near(&loan, written_at(text), room, length);
+}
+
+uint8_t vt_screen_left_out(const struct vt_screen *s, uint32_t *parts)
+{
+    struct vt_screen loan = *s;
+    return vt_lent_screen_left_out(&loan, parts);
 }
 
 uint8_t vt_screen_picture(const struct vt_screen *s, uint8_t *text, size_t room, size_t *length)
@@ -158,4 +203,65 @@ uint8_t vt_keys_pairs(const struct vt_keys *k, struct vt_pair *pairs, size_t roo
 uint8_t vt_keys_set_pairs(struct vt_keys *k, const struct vt_pair *pairs, size_t count)
 {
     return vt_nonnull_keys_set_pairs(k, read_at(pairs), count * sizeof *pairs);
+}
+
+uint8_t vt_machine_new(struct vt_machine *m, const struct vt_start *start, const struct vt_seat *seats, size_t count,
+                       const uint8_t *keymap, size_t n, struct vt_fault *fault)
+{
+    return vt_nonnull_machine_new(m, start, read_at(seats), count, read_at(keymap), n, fault);
+}
+
+uint8_t vt_machine_call(struct vt_machine *m, uint32_t caller, const char *name, const uint16_t *numbers, size_t count,
+                        const uint8_t *held, size_t n, struct vt_reply *reply, uint8_t *bytes, size_t room)
+{
+    return vt_nonnull_machine_call(m, caller, (const uint8_t *)name, strlen(name), read_at(numbers), count,
+                                   read_at(held), n, reply, written_at(bytes), room);
+}
+
+uint8_t vt_machine_marks(const struct vt_machine *m, struct vt_mark *marks, size_t room, size_t *count)
+{
+    struct vt_machine loan = *m;
+    return vt_lent_machine_marks(&loan, written_at(marks), room, count);
+}
+
+uint8_t vt_machine_wait(const struct vt_machine *m, uint32_t caller, uint8_t *wait)
+{
+    struct vt_machine loan = *m;
+    return vt_lent_machine_wait(&loan, caller, wait);
+}
+
+uint8_t vt_machine_display(const struct vt_machine *m, struct vt_display *display)
+{
+    struct vt_machine loan = *m;
+    return vt_lent_machine_display(&loan, display);
+}
+
+uint8_t vt_machine_console(const struct vt_machine *m, uint32_t n, struct vt_console *console)
+{
+    struct vt_machine loan = *m;
+    return vt_lent_machine_console(&loan, n, console);
+}
+
+uint8_t vt_machine_row(const struct vt_machine *m, uint32_t n, uint32_t row, struct vt_cell *cells, size_t room)
+{
+    struct vt_machine loan = *m;
+    return vt_lent_machine_row(&loan, n, row, written_at(cells), room);
+}
+
+uint8_t vt_machine_redraw(const struct vt_machine *m, uint32_t n, uint8_t *text, size_t room, size_t *length)
+{
+    struct vt_machine loan = *m;
+    return vt_lent_machine_redraw(&loan, n, written_at(text), room, length);
+}
+
+uint8_t vt_machine_entry(const struct vt_machine *m, uint32_t index, uint8_t *text, size_t room, size_t *length)
+{
+    struct vt_machine loan = *m;
+    return vt_lent_machine_entry(&loan, index, written_at(text), room, length);
+}
+
+uint8_t vt_machine_journal(const struct vt_machine *m, uint8_t *text, size_t room, size_t *length)
+{
+    struct vt_machine loan = *m;
+    return vt_lent_machine_journal(&loan, written_at(text), room, length);
 }

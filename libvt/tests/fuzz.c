@@ -1,55 +1,12 @@
-/* The whole interface for libFuzzer: an input is a list of calls on two screens and two keyboards, with their
+/* The whole interface for libFuzzer: an input is a list of calls on two screens, two keyboards and a machine, with their
  * numbers, lengths, rooms and texts. Beside what the sanitizers see, each call is compared with vt.h: its codes, what
  * it writes and what it leaves, and a feed in pieces with a write of the whole text on another screen.
  * libvt/tools/fuzz_c.sh builds it. */
-#include <stdbool.h>
-#include <stdint.h>
-#include <stdlib.h>
-#include <string.h>
+#include "fuzz_input.h"
+#include "fuzz_machine.h"
 #include <vt.h>
 
 enum { MOST = 4096 };
-
-static const uint8_t *input;
-static size_t left;
-
-static void must(bool is_so)
-{
-    if (!is_so)
-        abort();
-}
-
-static uint8_t byte(void)
-{
-    if (left == 0)
-        return 0;
-    left--;
-    return *input++;
-}
-
-/* A number: mostly small, sometimes any. */
-static uint32_t number(void)
-{
-    uint8_t kind = byte();
-    if (kind < 240)
-        return kind;
-    uint32_t value = 0;
-    for (int i = 0; i < 4; i++)
-        value = value << 8 | byte();
-    return value;
-}
-
-/* A piece of the input, in a block of its own that ends where the piece ends. */
-static uint8_t *piece(size_t *length)
-{
-    size_t wanted = (size_t)byte() * (byte() % 8 + 1u);
-    *length = wanted < left ? wanted : left;
-    uint8_t *block = malloc(*length + 1);
-    must(block != NULL);
-    memcpy(block, input, *length);
-    input += *length, left -= *length;
-    return block;
-}
 
 /* Two screens that are drawn alike: the first by feeds, the second by writes. */
 struct pair {
@@ -208,11 +165,46 @@ static void picture(struct pair *p)
     free(text);
 }
 
+static bool is_same_cell(struct vt_cell a, struct vt_cell b)
+{
+    return a.code == b.code && a.attr == b.attr;
+}
+
+/* The text of a near redraw makes the same cells, or U+FFFD in the same colours, as far as the parts that are left out
+ * allow, and isn't longer than the header says. */
+static void redraw_near(struct pair *p)
+{
+    size_t length = 0, again, room = p->is_made ? VT_REDRAW_MOST(p->rows, p->cols) : 0;
+    size_t count = p->is_made ? p->rows * p->cols : 0;
+    uint32_t parts = 77;
+    must(vt_screen_left_out(&p->fed, &parts) == (p->is_made ? VT_OK : VT_NOTHING) && (p->is_made || parts == 77));
+    must(vt_screen_redraw_near(&p->fed, NULL, 0, &length) == (p->is_made ? VT_NO_ROOM : VT_NOTHING));
+    if (!p->is_made)
+        return;
+    must(vt_screen_redraw(&p->fed, NULL, 0, &again) == (parts ? VT_NOT_DRAWABLE : VT_NO_ROOM));
+    uint8_t *text = malloc(room);
+    struct vt_cell *cells = malloc(2 * count * sizeof *cells);
+    struct vt_screen other = { 0 };
+    must(text != NULL && cells != NULL && length <= room);
+    must(vt_screen_redraw_near(&p->fed, text, room, &again) == VT_OK && again == length);
+    must(vt_screen_new(&other, p->rows, p->cols) == VT_OK && vt_screen_write(&other, text, length) == VT_OK);
+    must(vt_screen_cells(&p->fed, cells, count) == VT_OK && vt_screen_cells(&other, cells + count, count) == VT_OK);
+    for (size_t i = 0; i < count; i++) {
+        struct vt_cell replaced = { 0xFFFD, cells[i].attr, { 0 } };
+        must(is_same_cell(cells[i], cells[count + i]) ||
+             ((parts & VT_LEFT_CELLS) && is_same_cell(replaced, cells[count + i])));
+    }
+    must(vt_screen_left_out(&other, &parts) == VT_OK && parts == 0);
+    vt_screen_free(&other);
+    free(text), free(cells);
+}
+
 /* The text of a redraw makes the same cells on another screen, and needs as much room as it names. */
 static void redraw(struct pair *p)
 {
     size_t length = 0, again;
     picture(p);
+    redraw_near(p);
     uint8_t code = vt_screen_redraw(&p->fed, (uint8_t *)&again, 0, &length);
     must(p->is_made ? code == VT_NO_ROOM || code == VT_NOT_DRAWABLE : code == VT_NOTHING);
     if (code != VT_NO_ROOM)
@@ -241,7 +233,7 @@ static void make_keys(struct vt_keys *k)
     bool was_made = k->at != NULL;
     uint8_t code = vt_keys_new(k, text, length, texts, byte() % 3, &fault);
     must(was_made ? code == VT_MADE : code == VT_OK || code == VT_FAULT);
-    must(code != VT_FAULT || (fault.kind >= 1 && fault.kind <= 12 && fault.line >= 1 && fault.column >= 1));
+    must(code != VT_FAULT || (fault.kind >= 1 && fault.kind <= 13 && fault.line >= 1 && fault.column >= 1));
     free(text), free(first), free(second);
 }
 
@@ -332,7 +324,7 @@ int LLVMFuzzerTestOneInput(const uint8_t *data, size_t size)
         struct vt_keys *k = &keys[which >> 7];
         switch (which % 16) {
         case 0: make(p); break;
-        case 1: drop(p); break;
+        case 1: which & 32 ? on_machine() : drop(p); break;
         case 2: case 3: case 4: feed(p); break;
         case 5: look(p); break;
         case 6: resize(p); break;
@@ -340,11 +332,11 @@ int LLVMFuzzerTestOneInput(const uint8_t *data, size_t size)
         case 8: mark(p); break;
         case 9: redraw(p); break;
         case 10: make_keys(k); break;
-        case 11: vt_keys_free(k); break;
+        case 11: which & 32 ? on_machine() : vt_keys_free(k); break;
         case 12: type(k, &states[which >> 6 & 1]); break;
         case 13: set_keys(k, &states[which >> 6 & 1]); break;
         case 14: must(vt_keys_release(k) == (k->at ? VT_OK : VT_NOTHING)); break;
-        default: same_screens(p);
+        default: which & 32 ? on_machine() : same_screens(p);
         }
     }
     for (int i = 0; i < 2; i++) {
@@ -352,5 +344,6 @@ int LLVMFuzzerTestOneInput(const uint8_t *data, size_t size)
         drop(&pairs[i]);
         vt_keys_free(&keys[i]);
     }
+    drop_machine();
     return 0;
 }

@@ -81,6 +81,47 @@ static void try_making_keys(void)
     vt_keys_free(&k);
 }
 
+/* A comment of 1 MiB. */
+static uint8_t megabyte[1 << 20];
+
+/* Compiles a keymap that may include four texts: of 1 MiB, of 24 bytes less, of 24 bytes, and an empty one. */
+static uint8_t included(struct vt_keys *k, const char *text, struct vt_fault *fault)
+{
+    static const uint8_t twice[] = "include \"m\"\ninclude \"m\"\n";
+    const struct vt_text texts[] = { { (const uint8_t *)"m", 1, megabyte, sizeof megabyte },
+                                     { (const uint8_t *)"less", 4, megabyte, sizeof megabyte - 24 },
+                                     { (const uint8_t *)"twice", 5, twice, 24 },
+                                     { (const uint8_t *)"empty", 5, twice, 0 } };
+    return vt_keys_new(k, (const uint8_t *)text, strlen(text), texts, 4, fault);
+}
+
+/* The included texts have at most 4 MiB together, each as often as it is included, also within another one. */
+static void try_included_bytes(void)
+{
+    static const char *const fine[] = {
+        "include \"m\"\ninclude \"m\"\ninclude \"m\"\ninclude \"m\"\ninclude \"empty\"\n",
+        "include \"m\"\ninclude \"less\"\ninclude \"twice\"\n",
+    };
+    static const struct {
+        const char *text;
+        uint32_t line, column;
+    } bad[] = {
+        { "include \"m\"\ninclude \"m\"\ninclude \"m\"\ninclude \"m\"\n include \"twice\"\n", 5, 10 },
+        { "include \"less\"\ninclude \"m\"\ninclude \"m\"\ninclude \"twice\"\n", 4, 1 },
+    };
+    struct vt_keys k = { 0 };
+    struct vt_fault fault = { 9, 9, 9, 9 };
+    memset(megabyte, '#', sizeof megabyte);
+    for (size_t i = 0; i < sizeof fine / sizeof *fine; i++) {
+        WANT(included(&k, fine[i], &fault) == VT_OK && fault.kind == 9);
+        vt_keys_free(&k);
+    }
+    for (size_t i = 0; i < sizeof bad / sizeof *bad; i++) {
+        WANT(included(&k, bad[i].text, &fault) == VT_FAULT && k.at == NULL);
+        WANT(fault.kind == 13 && fault.line == bad[i].line && fault.column == bad[i].column);
+    }
+}
+
 static void try_strings(struct vt_keys *k)
 {
     uint8_t text[256];
@@ -275,6 +316,7 @@ static void try_consoles(void)
 int main(void)
 {
     try_making_keys();
+    try_included_bytes();
     try_keys();
     try_keycodes();
     try_entries();

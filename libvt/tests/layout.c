@@ -30,5 +30,19 @@ int main(void)
     FIELD(vt_key, bytes);
     STRUCT(vt_action), FIELD(vt_action, kind), FIELD(vt_action, value);
     STRUCT(vt_pair), FIELD(vt_pair, accent), FIELD(vt_pair, base), FIELD(vt_pair, result);
+    STRUCT(vt_machine), FIELD(vt_machine, at);
+    STRUCT(vt_start), FIELD(vt_start, consoles), FIELD(vt_start, bytes), FIELD(vt_start, events);
+    FIELD(vt_start, rows), FIELD(vt_start, cols), FIELD(vt_start, front), FIELD(vt_start, keyboards);
+    FIELD(vt_start, spare);
+    STRUCT(vt_seat), FIELD(vt_seat, home), FIELD(vt_seat, privileged), FIELD(vt_seat, spare);
+    STRUCT(vt_reply), FIELD(vt_reply, mask), FIELD(vt_reply, length), FIELD(vt_reply, number);
+    FIELD(vt_reply, words), FIELD(vt_reply, kind), FIELD(vt_reply, spare);
+    STRUCT(vt_mark), FIELD(vt_mark, kind), FIELD(vt_mark, a), FIELD(vt_mark, b), FIELD(vt_mark, cause);
+    FIELD(vt_mark, spare);
+    STRUCT(vt_display), FIELD(vt_display, hops), FIELD(vt_display, gone), FIELD(vt_display, entries);
+    FIELD(vt_display, front), FIELD(vt_display, pending), FIELD(vt_display, locked), FIELD(vt_display, spare);
+    STRUCT(vt_console), FIELD(vt_console, bells), FIELD(vt_console, queued), FIELD(vt_console, rows);
+    FIELD(vt_console, cols), FIELD(vt_console, y), FIELD(vt_console, x), FIELD(vt_console, owner);
+    FIELD(vt_console, graphics), FIELD(vt_console, visible), FIELD(vt_console, spare);
     return 0;
 }

@@ -1,46 +1,13 @@
-/* Each request for memory refused in turn. Linked with -Wl,--wrap=malloc,--wrap=realloc,--wrap=free.
+/* Each request for memory of screens and keyboards refused in turn.
  *
  * A call that is refused memory returns VT_NO_MEMORY, what the handle has stays, and what it asked for is given back; or
  * it asks for less and does its work, as a list does that wanted room for twice as many items. The first line has how
  * many requests each call makes. */
+#include "refusals.h"
 #include "want.h"
 
-void *__real_malloc(size_t);
-void *__real_realloc(void *, size_t);
-void __real_free(void *);
-void *__wrap_malloc(size_t);
-void *__wrap_realloc(void *, size_t);
-void __wrap_free(void *);
-
-static unsigned long asked, refused;
-static long blocks;
-
-static bool is_refused(void)
-{
-    return ++asked == refused;
-}
-
-void *__wrap_malloc(size_t size)
-{
-    void *at = is_refused() ? NULL : __real_malloc(size);
-    blocks += at != NULL;
-    return at;
-}
-
-void *__wrap_realloc(void *old, size_t size)
-{
-    void *at = is_refused() ? NULL : __real_realloc(old, size);
-    blocks += at != NULL && old == NULL;
-    return at;
-}
-
-void __wrap_free(void *at)
-{
-    blocks -= at != NULL;
-    __real_free(at);
-}
-
 static const uint8_t TEXT[] = "one\033[31m two\r\n\033[44;1mthree\033[5;5Hfour";
+static const uint8_t UNDRAWABLE[] = "\033[H\033%@\033[3h\001\033[3l\033%G"; /* a cell of 01 */
 static const uint8_t KEYMAP[] = "keymaps 0-2\ninclude \"more\"\nkeycode 30 = a\nstring F1 = \"one\"\n";
 static const uint8_t NAME[] = "more", MORE[] = "keycode 31 = b\ncompose '`' 'a' to U+00E0\n";
 static const struct vt_text TEXTS[] = { { NAME, 4, MORE, sizeof MORE - 1 } };
@@ -65,15 +32,17 @@ static uint64_t shown(struct vt_screen *s)
 static struct vt_screen screen;
 static struct vt_keys keys;
 static uint8_t room[65536];
+static struct vt_cell cells[64 * 64];
 static size_t length;
 static struct vt_fault fault;
 
 /* The calls that may ask for memory. */
 static uint8_t make(void) { return vt_screen_new(&screen, 25, 80); }
-static uint8_t row_text(void) { return vt_screen_row_text(&screen, 0, room, sizeof room, &length); }
 static uint8_t mark(void) { return vt_screen_mark(&screen); }
 static uint8_t resize(void) { return vt_screen_resize(&screen, 30, 40); }
 static uint8_t redraw(void) { return vt_screen_redraw(&screen, room, sizeof room, &length); }
+static uint8_t near(void) { return vt_screen_redraw_near(&screen, room, sizeof room, &length); }
+static uint8_t changes_near(void) { return vt_screen_redraw_changes_near(&screen, room, sizeof room, &length); }
 static uint8_t picture(void) { return vt_screen_picture(&screen, room, sizeof room, &length); }
 static uint8_t changes(void) { return vt_screen_redraw_changes(&screen, room, sizeof room, &length); }
 static uint8_t make_keys(void) { return vt_keys_new(&keys, KEYMAP, sizeof KEYMAP - 1, TEXTS, 1, &fault); }
@@ -118,13 +87,15 @@ static unsigned long try_each(uint8_t (*call)(void), bool is_there)
 
 int main(void)
 {
-    unsigned long counts[8];
+    unsigned long counts[9];
     counts[0] = try_each(make, false);
     WANT(vt_screen_write(&screen, TEXT, sizeof TEXT - 1) == VT_OK);
-    counts[1] = try_each(row_text, true);
     counts[2] = try_each(mark, true);
     counts[3] = try_each(redraw, true);
     counts[4] = try_each(changes, true);
+    WANT(vt_screen_write(&screen, UNDRAWABLE, sizeof UNDRAWABLE - 1) == VT_OK && redraw() == VT_NOT_DRAWABLE);
+    counts[1] = try_each(near, true);
+    counts[8] = try_each(changes_near, true);
     counts[5] = try_each(resize, true);
     counts[7] = try_each(picture, true);
     /* Calls that ask for none. */
@@ -135,6 +106,10 @@ int main(void)
         WANT(vt_screen_feed(&screen, TEXT, sizeof TEXT - 1, outs, 8, &fed) == VT_OK);
         WANT(vt_screen_write(&screen, TEXT, sizeof TEXT - 1) == VT_OK);
         shown(&screen);
+        uint32_t parts;
+        WANT(vt_screen_row_text(&screen, 0, room, sizeof room, &length) == VT_OK);
+        WANT(vt_screen_cells(&screen, cells, sizeof cells / sizeof *cells) == VT_OK);
+        WANT(vt_screen_left_out(&screen, &parts) == VT_OK && vt_columns(0x4E2D) == 2);
     }
     WANT(asked == 0);
     vt_screen_free(&screen);
@@ -155,8 +130,8 @@ int main(void)
     WANT(vt_keys_pairs(&keys, pairs, 1, &count) == VT_OK && count == 1);
     vt_keys_free(&keys);
     WANT(blocks == 0 && keys.at == NULL);
-    printf("requests: new %lu, row_text %lu, mark %lu, redraw %lu, redraw_changes %lu, resize %lu, keys_new %lu, "
-           "picture %lu\n",
-           counts[0], counts[1], counts[2], counts[3], counts[4], counts[5], counts[6], counts[7]);
+    printf("requests: new %lu, redraw_near %lu, mark %lu, redraw %lu, redraw_changes %lu, resize %lu, keys_new %lu, "
+           "picture %lu, redraw_changes_near %lu\n",
+           counts[0], counts[1], counts[2], counts[3], counts[4], counts[5], counts[6], counts[7], counts[8]);
     return ended();
 }

@@ -73,6 +73,7 @@ static void try_nothing(struct vt_screen *s)
     uint8_t text[4] = { 9, 9, 9, 9 };
     size_t length = 9;
     uint8_t changed = 9;
+    uint32_t parts = 9;
     static const uint16_t words[256];
     WANT(vt_screen_feed(s, TEXT, sizeof TEXT, &out, 1, &fed) == VT_NOTHING);
     WANT(fed.taken == 7 && fed.outs == 7 && out.kind == 9);
@@ -89,6 +90,10 @@ static void try_nothing(struct vt_screen *s)
     WANT(vt_screen_set_user(s, words) == VT_NOTHING);
     WANT(vt_screen_redraw(s, text, 4, &length) == VT_NOTHING && length == 9);
     WANT(vt_screen_redraw_changes(s, text, 4, &length) == VT_NOTHING && length == 9);
+    WANT(vt_screen_cells(s, &cell, 1) == VT_NOTHING && cell.code == 9);
+    WANT(vt_screen_redraw_near(s, text, 4, &length) == VT_NOTHING && length == 9 && text[0] == 9);
+    WANT(vt_screen_redraw_changes_near(s, text, 4, &length) == VT_NOTHING && length == 9 && text[0] == 9);
+    WANT(vt_screen_left_out(s, &parts) == VT_NOTHING && parts == 9);
     WANT(vt_screen_picture(s, text, 4, &length) == VT_NOTHING && length == 9);
     vt_screen_free(s);
     WANT(s->at == NULL);
@@ -324,6 +329,104 @@ static void try_redraw_of_changes(void)
     vt_screen_free(&other);
 }
 
+/* All cells at once are the rows, one after another, as far as there is room. */
+static void try_cells(void)
+{
+    struct vt_screen s = { 0 };
+    struct vt_cell all[ROWS * COLS + 1], row[COLS];
+    WANT(vt_screen_new(&s, ROWS, COLS) == VT_OK && vt_screen_write(&s, TEXT, sizeof TEXT - 1) == VT_OK);
+    memset(all, 9, sizeof all);
+    LEAVES(&s, vt_screen_cells(&s, all, ROWS * COLS + 1), VT_OK);
+    for (uint32_t y = 0; y < ROWS; y++) {
+        WANT(vt_screen_row(&s, y, row, COLS) == VT_OK);
+        WANT(memcmp(all + y * COLS, row, sizeof row) == 0);
+    }
+    WANT(all[0].code == 'a' && all[COLS + 2].code == 0xE9 && all[COLS + 4].code == VT_HALF);
+    WANT(all[ROWS * COLS].code == 0x09090909 && all[ROWS * COLS].spare[2] == 9);
+    memset(all, 9, sizeof all);
+    WANT(vt_screen_cells(&s, all, COLS + 3) == VT_OK && all[COLS + 2].code == 0xE9);
+    WANT(all[COLS + 3].code == 0x09090909 && all[COLS + 3].attr == 9);
+    all[0].code = 9;
+    LEAVES(&s, vt_screen_cells(&s, all, 0), VT_OK);
+    LEAVES(&s, vt_screen_cells(&s, NULL, 0), VT_OK);
+    WANT(all[0].code == 9);
+    vt_screen_free(&s);
+}
+
+/* Widths of Unicode Standard Annex 11: a Han character and an emoji are wide, an accent joins the letter before it. */
+static void try_columns(void)
+{
+    WANT(vt_columns('a') == 1 && vt_columns(0xE9) == 1 && vt_columns(0x4E2D) == 2 && vt_columns(0x1F600) == 2);
+    WANT(vt_columns(0x301) == 0 && vt_columns(0x200D) == 0 && vt_columns(0xFFFD) == 1);
+    WANT(vt_columns(0) == 1 && vt_columns(VT_FONT) == 1 && vt_columns(0xD800) == 1);
+    WANT(vt_columns(VT_HALF) == 1 && vt_columns(UINT32_MAX) == 1);
+}
+
+/* Draws the nearest screen on another one that shows something else, and compares them, all but the first cell. */
+static void try_near(struct vt_screen *s, uint32_t wanted, bool is_first_kept)
+{
+    static uint8_t text[65536];
+    struct vt_screen other = { 0 };
+    uint32_t parts = 99;
+    size_t length = 0, again = 0;
+    LEAVES(s, vt_screen_left_out(s, &parts), VT_OK);
+    WANT(parts == wanted);
+    WANT(vt_screen_redraw(s, text, sizeof text, &length) == (wanted ? VT_NOT_DRAWABLE : VT_OK));
+    LEAVES(s, vt_screen_redraw_near(s, text, sizeof text, &length), VT_OK);
+    take(s, &before);
+    WANT(length > 0 && length <= VT_REDRAW_MOST(before.state.rows, before.state.cols));
+    WANT(vt_screen_new(&other, before.state.rows, before.state.cols) == VT_OK);
+    WANT(drawn(&other, "\033[7mQQQQ\033[2;3r\033[?6hZZZ") && vt_screen_write(&other, text, length) == VT_OK);
+    take(&other, &after);
+    if (!is_first_kept) {
+        WANT(after.cells[0][0].code == 0xFFFD && after.cells[0][0].attr == before.cells[0][0].attr);
+        after.cells[0][0] = before.cells[0][0];
+    }
+    WANT(is_same(&before, &after));
+    /* What was drawn can be drawn. */
+    WANT(vt_screen_left_out(&other, &parts) == VT_OK && parts == 0);
+    text[0] = 9;
+    LEAVES(s, vt_screen_redraw_near(s, text, length - 1, &again), VT_NO_ROOM);
+    WANT(again == length && text[0] == 9);
+    LEAVES(s, vt_screen_redraw_near(s, NULL, 0, &again), VT_NO_ROOM);
+    WANT(again == length);
+    WANT(vt_screen_redraw_near(s, text, length, &again) == VT_OK && again == length);
+    /* Without a mark, and with one. */
+    LEAVES(s, vt_screen_redraw_changes_near(s, NULL, 0, &again), VT_NO_ROOM);
+    WANT(again == length && vt_screen_mark(s) == VT_OK);
+    LEAVES(s, vt_screen_redraw_changes_near(s, text, sizeof text, &again), VT_OK);
+    WANT(again < length && vt_screen_write(&other, text, again) == VT_OK);
+    take(&other, &after);
+    WANT(after.state.y == before.state.y && after.state.x == before.state.x);
+    text[0] = 9;
+    LEAVES(s, vt_screen_redraw_changes_near(s, text, again - 1, &length), VT_NO_ROOM);
+    WANT(length == again && text[0] == 9);
+    vt_screen_free(&other);
+}
+
+/* A text for each part that no text makes, of those that a screen can have (console_codes(4)). */
+static void try_left_out(void)
+{
+    static const struct {
+        const char *text;
+        uint32_t rows, cols, parts;
+        bool is_first_kept;
+    } row[] = {
+        { "ab\033[31mc", 0, 0, 0, true },
+        { "\033[32m\033%@\033[3h\001\033[3l\033%G", 0, 0, VT_LEFT_CELLS, false },       /* a cell of 01 */
+        { "\033[3;5H\0337", 2, 4, VT_LEFT_SAVED, true },                               /* the last row and column go */
+        { "\033[2;3r\033[?6h", 2, 6, 0, true },                                         /* the region is whole again */
+    };
+    for (size_t i = 0; i < sizeof row / sizeof *row; i++) {
+        struct vt_screen s = { 0 };
+        WANT(vt_screen_new(&s, ROWS, COLS) == VT_OK && drawn(&s, row[i].text));
+        if (row[i].rows)
+            WANT(vt_screen_resize(&s, row[i].rows, row[i].cols) == VT_OK);
+        try_near(&s, row[i].parts, row[i].is_first_kept);
+        vt_screen_free(&s);
+    }
+}
+
 static void try_picture(void)
 {
     static const char begin[] = "<svg xmlns='http://www.w3.org/2000/svg'", end[] = "</svg>\n";
@@ -387,6 +490,9 @@ int main(void)
     try_changes();
     try_redraw();
     try_redraw_of_changes();
+    try_cells();
+    try_columns();
+    try_left_out();
     try_picture();
     try_null();
     try_moving();

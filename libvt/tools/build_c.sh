@@ -9,10 +9,10 @@
 #
 # and the file OUT/BUILD, which has in a line whether the library is proved, its commit and the toolchain.
 #
-# It wants the Rattle toolchain (rt), a C compiler (CC, or cc), ld, ar and objcopy. `rt lib` proves the two crates of the
+# It wants the Rattle toolchain (rt), a C compiler (CC, or cc), ld, ar and objcopy. `rt lib` proves the three crates of the
 # library and those below them, if they aren't proved yet. With --gate the crates below are taken as `rt ci` just left
-# them in this clone, and only the two crates are proved; `rt lib` doesn't take these, since they are without the proofs.
-# With --built the archives in crates/screen_c/out and crates/keys_c/out are taken as they stand, and rt isn't called;
+# them in this clone, and only the three crates are proved; `rt lib` doesn't take these, since they are without the proofs.
+# With --built the archives in the folders `out` of these crates are taken as they stand, and rt isn't called;
 # with --unproved the library is made of an object file, which tools/build.py compiles without proofs. A program that is
 # linked with the library wants only a C compiler. Status 1: something is missing, which the last line names, or a step
 # failed.
@@ -81,10 +81,12 @@ build_over_gate() {
     mkdir -p "$top/crates/$crate/out"
     (cd "$top/crates/$crate" && "$kit/bin/rattle" build --crate-name "$crate" src/lib.rt "$@" --crate-type staticlib \
         --links "$crate=" --antt-project "$kit/rattle/logic/antt-project.json" --logic-built "$kit/logic_built" \
-        --toolchain "$kit/toolchain" --backend llvm --jobs "$(nproc)" -o "out/lib$crate.a")
+        --toolchain "$kit/toolchain" --cpu "$cpu" --backend llvm --jobs "$(nproc)" -o "out/lib$crate.a")
 }
 
-objects=$object crates='screen_c keys_c'
+# Every processor of x86-64 runs the code: nobody looks at the processor before a call.
+cpu=x86-64
+objects=$object crates='screen_c keys_c machine_c'
 [ -z "$object" ] || crates=
 for crate in $crates; do
     archive=$top/crates/$crate/out/lib$crate.a
@@ -93,7 +95,7 @@ for crate in $crates; do
             { tail -n 20 "$work/log" >&2; stop "crates/$crate isn't built over what rt ci left"; }
     elif [ -z "$built" ]; then
         echo "build_c.sh: rt lib in crates/$crate; the first proof of the crates below takes minutes" >&2
-        (cd "$top/crates/$crate" && rt lib) > "$work/log" 2>&1 ||
+        (cd "$top/crates/$crate" && rt lib --cpu "$cpu") > "$work/log" 2>&1 ||
             { tail -n 20 "$work/log" >&2; stop "rt lib failed in crates/$crate"; }
     fi
     [ -f "$archive" ] || stop "$archive isn't there: rt lib in crates/$crate makes it"
@@ -109,7 +111,8 @@ done
 
 # One object, whose symbols for others are the calls of vt.h.
 ld -r -o "$work/vt.o" $objects "$work/calls.o" "$work/heap.o" || stop "ld joined no object"
-objcopy --wildcard --keep-global-symbol=vt_version --keep-global-symbol='vt_screen_*' --keep-global-symbol='vt_keys_*' \
+objcopy --wildcard --keep-global-symbol=vt_version --keep-global-symbol=vt_columns \
+    --keep-global-symbol='vt_screen_*' --keep-global-symbol='vt_keys_*' --keep-global-symbol='vt_machine_*' \
     "$work/vt.o" || stop "objcopy failed"
 mkdir -p "$out/include" "$out/lib/pkgconfig" "$out/share/man/man3" || stop "$out can't be made"
 rm -f "$out"/lib/libvt.* "$out/BUILD"

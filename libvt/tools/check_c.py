@@ -1,18 +1,20 @@
 #!/usr/bin/env python3
 """Builds the C library from this clone and checks it, its examples and its bindings.
 
-usage: check_c.py [--library OUT | --gate] [--vt PROGRAM] [--only CHECK,..] [--add-interface] [--runs N]
+usage: check_c.py [--library OUT | --gate] [--vt PROGRAM] [--only CHECK,..] [--add-interface] [--runs N] [--sessions N]
 
 - `header`: vt.h is C99 to C2x and C++11 to C++20, also after <term.h>, and has each line of libvt/src/interface.txt;
 the library
   has the calls of vt.h and no other symbol; the Python package has its layout.
 - `codes`: each code of each call, plainly, with sanitizers, and under valgrind without a leak.
+- `machines`: N generated sessions (300) are called one by one on a machine: the journal, the screens, the display and
+  the queues are those of `vt play`, byte for byte. And calls in any order: `watch free` finds their journal legal.
 - `cuts`, `outs`, `workloads`: the recordings of examples/ in pieces of 1, 7, 64, 4,096 bytes and whole, with room for
   0, 1, 2, 64 and 5,000 outs; a text that asks for thousands of things in eight cuts; the ten workloads of
   dev/bench/inputs.py. The rows are those that `vt screen` prints.
 - `memory`: each request for memory refused once. `threads`: handles that go between threads, and eight threads that
   read one handle at once, under helgrind too.
-- `keys`, `faults`: N random runs of keys (1,000) are typed as `vt type` does; faults of keymaps are those of `vt keys`.
+- `keys`, `faults`: random runs of keys (1,000, or --runs) are typed as `vt type` does; faults of keymaps are those of `vt keys`.
 - `terminal`: libvt/examples/term.c on a pseudo-terminal. `programs`: vim, less, htop, dialog and mc in it, in tmux.
 - `python`, `rust`: the tests of the bindings. `fuzz`: the fuzzer's corpus (libvt/tools/fuzz_c.sh looks for more).
 - `install`: tools/install.sh into a folder, and programs that are linked by pkg-config there, with the shared object
@@ -40,7 +42,7 @@ sys.path.insert(0, str(pathlib.Path(__file__).resolve().parents[2] / "dev"))
 
 import repository  # noqa: E402,F401: it has the folders of the modules below
 import package  # noqa: E402
-from c_library import drawn, guide, interface, programs, terminal, typed  # noqa: E402
+from c_library import drawn, guide, interface, machines, programs, terminal, typed  # noqa: E402
 from c_library.bench import (  # noqa: E402
     EXAMPLES, SANITIZERS, TESTS, TOP, VALGRIND, WARNINGS, Bench, Missing)
 from programs import find_for_check  # noqa: E402
@@ -52,6 +54,12 @@ LINKS = {
     "shared": "$(pkg-config --cflags --libs vt)",
     "static": "-Wl,-Bstatic $(pkg-config --static --cflags --libs vt) -Wl,-Bdynamic",
 }
+# Instructions of SSE3 and later, as x86-64-v2 has them, and those of AVX.
+LATER = re.compile(
+    r"v(?!err|erw)\w+|pshufb|palignr|pabs[bwd]|ph(add|sub)\w+|pmaddubsw|pmulhrsw|psign[bwd]|p?blend\w+|pmov[sz]x\w+|"
+    r"pinsr[bdq]|pextr[bdq]|insertps|extractps|ptest|pmulld|pmuldq|pm(in|ax)(sb|uw|ud|sd)|round[sp][sd]|pcmp(eq|gt)q|"
+    r"pcmp[ei]str\w|packusdw|mpsadbw|dpp[sd]|movntdqa|crc32\w?|popcnt\w?|lddqu|movs[hl]dup|movddup|h(add|sub)p[sd]|"
+    r"addsubp[sd]|cmpxchg16b|[ls]ahf")
 WRAPPED = [f"-Wl,--wrap={name}" for name in ("malloc", "realloc", "free")]
 
 
@@ -87,17 +95,31 @@ def check_header(bench):
     is_so = "soname: [libvt.so.1]" in said and needed == ["libc.so.6"]
     bench.holds(is_so, f"libvt.so.1 needs the C library alone: {needed}")
     bench.holds("TEXTREL" not in said, "libvt.so.1 has no relocations in its text")
+    bench.holds("NOW" in said, "libvt.so.1 binds all symbols when it is loaded (-z now)")
+    check_instructions(bench)
     layout = bench.compiled("layout", [TESTS / "layout.c"])
     if layout:
         lines = bench.run([layout]).stdout.decode().splitlines()
         compare_layout(bench, lines)
         if interface.ADDS:
             interface.add(lines)
+            interface.add_symbols(calls)
         found = interface.faults(lines)
         bench.holds(not found, "the interface of libvt.so.1 is that of the file:\n" + "\n".join(found))
+        listed = set(interface.package_calls())
+        bench.holds(listed == calls, f"debian/libvt1.symbols has the calls of vt.h: {sorted(listed ^ calls)}")
     version = re.search(r'^\.Os "vt (\d+)\.(\d+)\.(\d+)"$', (TOP / "man/vt.3").read_text(encoding="utf-8"), re.M)
     wanted = int(version[1]) << 16 | int(version[2]) << 8 | int(version[3])
     bench.holds(f"#define VT_VERSION {wanted:#08x}\n" in HEADER.read_text(encoding="utf-8"), "VT_VERSION is that of vt(3)")
+
+
+def check_instructions(bench):
+    """The library runs on every x86-64: it has no instruction that came later."""
+    bench.needs("objdump")
+    said = bench.run(["objdump", "-d", "--no-show-raw-insn", bench.library / "lib/libvt.so.1"]).stdout.decode()
+    names = set(re.findall(r"^ +[0-9a-f]+:\s+([a-z]\w*)", said, re.M))
+    later = sorted(name for name in names if LATER.fullmatch(name))
+    bench.holds(len(names) > 50 and not later, f"libvt.so.1 has the instructions of x86-64 alone, and not {later}")
 
 
 def check_header_beside(bench):
@@ -118,7 +140,7 @@ def check_header_beside(bench):
 def compare_layout(bench, lines):
     """The structs of the Python package have the sizes and the places of fields that C gives them."""
     calls = binding(bench)
-    names = {"vt_screen": "_Handle", "vt_keys": "_Handle"}
+    names = {"vt_screen": "_Handle", "vt_keys": "_Handle", "vt_machine": "_Handle"}
     for line in lines:
         name, value = line.split()
         struct, _, field = name.partition(".")
@@ -129,7 +151,7 @@ def compare_layout(bench, lines):
 
 
 def check_codes(bench):
-    for name in ("screen_codes", "keys_codes"):
+    for name in ("screen_codes", "keys_codes", "machine_codes", "machine_starts"):
         plain = bench.compiled(name, [TESTS / f"{name}.c"])
         sanitized = bench.compiled(f"{name}.san", [TESTS / f"{name}.c"], SANITIZERS)
         if plain and sanitized:
@@ -140,14 +162,15 @@ def check_codes(bench):
 
 
 def check_memory(bench):
-    plain = bench.compiled("memory", [TESTS / "memory.c"], WRAPPED)
-    sanitized = bench.compiled("memory.san", [TESTS / "memory.c"], [*WRAPPED, *SANITIZERS])
-    if plain and sanitized:
-        ran = bench.ends_well([plain], "memory.c")
-        print(ran.stdout.decode().splitlines()[0] if ran.stdout else "no output", flush=True)
-        bench.ends_well([sanitized], "memory.c with sanitizers")
-        bench.needs("valgrind")
-        bench.ends_well([*VALGRIND, plain], "memory.c under valgrind")
+    for name in ("memory", "machine_memory"):
+        plain = bench.compiled(name, [TESTS / f"{name}.c"], WRAPPED)
+        sanitized = bench.compiled(f"{name}.san", [TESTS / f"{name}.c"], [*WRAPPED, *SANITIZERS])
+        if plain and sanitized:
+            ran = bench.ends_well([plain], f"{name}.c")
+            print(ran.stdout.decode().splitlines()[0] if ran.stdout else "no output", flush=True)
+            bench.ends_well([sanitized], f"{name}.c with sanitizers")
+            bench.needs("valgrind")
+            bench.ends_well([*VALGRIND, plain], f"{name}.c under valgrind")
 
 
 def check_threads(bench):
@@ -162,8 +185,9 @@ def check_threads(bench):
 
 def check_python(bench):
     library = str(bench.library / "lib/libvt.so.1")
-    words = [sys.executable, "-B", package.FOLDER / "tests/test_calls.py"]
-    bench.ends_well(words, "the tests of the Python calls", env={**os.environ, "VT_LIBRARY": library})
+    for name in ("test_calls", "test_machine"):
+        words = [sys.executable, "-B", package.FOLDER / f"tests/{name}.py"]
+        bench.ends_well(words, f"{name}.py of the Python package", env={**os.environ, "VT_LIBRARY": library})
 
 
 def check_rust(bench):
@@ -242,6 +266,7 @@ CHECKS = {
     "threads": check_threads,
     "keys": typed.check_keys,
     "faults": typed.check_faults,
+    "machines": machines.check_machines,
     "terminal": lambda bench: terminal.check_terminal(bench, binding(bench)),
     "programs": programs.check_programs,
     "python": check_python,
@@ -271,6 +296,7 @@ def main():
     words.add_argument("--only", default=",".join(CHECKS), metavar="CHECK,..", help=", ".join(CHECKS))
     words.add_argument("--add-interface", action="store_true", help="libvt/src/interface.txt gets what vt.h has more")
     words.add_argument("--runs", default="1000", metavar="N", help="how many random runs of keys")
+    words.add_argument("--sessions", default="300", metavar="N", help="how many generated sessions")
     given = words.parse_args()
     interface.ADDS = given.add_interface
     names = given.only.split(",")
@@ -279,6 +305,7 @@ def main():
         raise Stop(2, f"{unknown[0]}: one of {', '.join(CHECKS)} was wanted")
     try:
         typed.RUNS = number(given.runs, 1, 100_000, "runs")
+        machines.RUNS = number(given.sessions, 1, 100_000, "sessions")
     except ValueError as fault:
         raise Stop(2, f"check_c.py: {fault}") from None
     library = pathlib.Path(given.library or build(["--gate"] * given.gate)).absolute()

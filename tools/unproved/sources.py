@@ -103,7 +103,7 @@ def reaching_module(crate):
     calls, uses, lines = [], set(), []
     for module, name, types in exports(crate):
         uses.add(f"use crate::{crate}::{module}::{name};")
-        kinds = re.findall(r"\b(?:Vt|Screen|Keys)\w+", " ".join(types))
+        kinds = re.findall(r"\b(?:Vt|Screen|Keys|Machine)\w+", " ".join(types))
         uses.update(f"use crate::{crate}::{module_of_type(crate, kind)}::{kind};" for kind in kinds)
         lines += reaching_call(name, types)
         calls.append(f"    reach_{name}({', '.join(['None'] * len(types))});")

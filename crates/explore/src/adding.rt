@@ -19,3 +19,14 @@ pub(crate) fn add_number(alloc: Global, text: &mut Bytes, n: u64) -> Result<(), 
 pub(crate) fn add_caller(alloc: Global, text: &mut Bytes, p: CallerNo) -> Result<(), NoMemory> {
     vt_journal::add_caller(alloc, text, p, VERSION)
 }
+
+/// Adds the bytes as a part of a string of JSON.
+pub(crate) fn add_escaped(alloc: Global, text: &mut Bytes, bytes: &[u8]) -> Result<(), NoMemory> {
+    for b in bytes {
+        if *b == b'"' || *b == b'\\' {
+            add(alloc, text, b"\\")?;
+        }
+        add(alloc, text, &[*b])?;
+    }
+    Ok(())
+}

@@ -49,7 +49,7 @@ impl Failure {
         match self {
             Failure::Usage => (
                 1,
-                b"explore: usage: explore [--json] [--states N] QUESTION ..",
+                b"explore: usage: explore [--json] [--states N] [QUESTION ..]",
             ),
             Failure::Question { .. } => (1, b"explore: no question"),
             Failure::ReadFault => (2, b"explore: read failed"),
@@ -64,7 +64,7 @@ impl Failure {
 /// The words of questions.
 const KNOWN: &[u8] =
     b"; the words are: by P, call WORDS, = WORDS, front N, pending [N], graphics N, owner N [P], locked, \
-lives P, waiting P, signals P [S], open P N, ended, stuck, waits P, refused P [ERRNO [CALL]], ends N, blind P N, \
+lives P, waiting P, signals P [S], open P N, shows N \"TEXT\", ended, stuck, waits P, refused P [ERRNO [CALL]], ends N, blind P N, \
 false-ack P N, and, not";
 
 fn add_pair(

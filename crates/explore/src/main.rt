@@ -1,6 +1,6 @@
 //! A program that answers questions about every order of a session's calls (docs/reference/explore.md).
 //!
-//!     explore [--json] [--states N] QUESTION .. < SESSION
+//!     explore [--json] [--states N] [QUESTION ..] < SESSION
 #![tactic(auto)]
 
 mod adding;
@@ -15,16 +15,18 @@ mod patterns;
 mod phrase;
 mod questions;
 mod spelling;
+mod telling;
 
-use answering::add_answer;
+use answering::add_answers;
 use ending::Failure;
 use input::session_of;
 use options::{Options, options_of};
 use questions::question_of;
 use std::alloc::Global;
 use std::io;
-use std::io::{Read, Write};
+use std::io::{ErrorKind, Read, Write};
 use std::process::ExitCode;
+use telling::Teller;
 use vt_base::Bytes;
 
 /// The most bytes of input that are read.
@@ -62,16 +64,27 @@ fn output(rt: &HostRuntime, alloc: Global, options: &Options) -> Result<Bytes, F
         }
     }
     let mut input = Vec::new(alloc);
-    if rt.reader().read_to_end(&mut input).is_err() {
-        return Err(Failure::ReadFault);
+    if let Err(error) = rt.reader().read_to_end(&mut input) {
+        return Err(match error.kind() {
+            ErrorKind::OutOfMemory => Failure::NoMemory,
+            _ => Failure::ReadFault,
+        });
     }
     if INPUT_LIMIT < input.len() {
         return Err(Failure::TooLong);
     }
     let session = session_of(alloc, input.as_slice())?;
     let mut text = Bytes::new(alloc);
-    for question in questions.as_slice() {
-        add_answer(alloc, &mut text, options, &session, question)?;
-    }
+    let mut teller = Teller::new(rt);
+    let answered = add_answers(
+        alloc,
+        &mut text,
+        options,
+        &session,
+        questions.as_slice(),
+        &mut teller,
+    );
+    teller.finish();
+    answered?;
     Ok(text)
 }

@@ -16,9 +16,9 @@ const WORDS: usize = 1_024;
 /// What the words ask for.
 #[derive(Drop)]
 pub(crate) struct Options {
-    /// One line of JSON for each question, in place of lines for a person.
+    /// One line of JSON for each answer, in place of lines for a person.
     pub json: bool,
-    /// The most states that are told apart for a question.
+    /// The most states that are told apart.
     pub states: usize,
     pub questions: Vec<Bytes>,
 }
@@ -41,7 +41,7 @@ pub(crate) fn options_of(alloc: Global, env: &impl Env) -> Result<Options, Failu
 }
 
 fn finished(options: Options, counting: bool) -> Result<Options, Failure> {
-    if counting || options.questions.is_empty() {
+    if counting {
         return Err(Failure::Usage);
     }
     Ok(options)

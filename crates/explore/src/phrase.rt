@@ -8,17 +8,19 @@ pub(crate) struct Phrase {
 }
 
 impl Phrase {
-    /// The words between the blanks of a text.
+    /// The words between the blanks of a text. Blanks between two quotes part no words.
     pub(crate) fn of(alloc: Global, text: &[u8]) -> Result<Phrase, NoMemory> {
         let mut words = Vec::new(alloc);
         let mut word = Bytes::new(alloc);
+        let mut quoted = false;
         for b in text {
-            if *b == b' ' {
+            if *b == b' ' && !quoted {
                 if !word.as_slice().is_empty() {
                     words.push(word)?;
                     word = Bytes::new(alloc);
                 }
             } else {
+                quoted = quoted != (*b == b'"');
                 vt_journal::add(alloc, &mut word, &[*b])?;
             }
         }

@@ -1,11 +1,29 @@
 //! Questions in words.
 use crate::ending::Failure;
-use crate::facts::fact_at;
+use crate::facts::{console_of, fact_at};
 use crate::names::name_at;
 use crate::phrase::Phrase;
 use std::alloc::Global;
-use vt_base::NoMemory;
-use vt_explore::{Condition, Conditions};
+use vt_base::{Bytes, ConsoleNo, NoMemory};
+use vt_explore::{Condition, Conditions, Fact};
+
+/// For each console the question whether it has the display at the end.
+pub(crate) fn last_displays(alloc: Global) -> Result<Vec<Conditions>, NoMemory> {
+    let mut questions = Vec::new(alloc);
+    for c in ConsoleNo::all() {
+        let mut all = Vec::new(alloc);
+        all.push(Condition {
+            holds: true,
+            fact: Fact::Front(c),
+        })?;
+        all.push(Condition {
+            holds: true,
+            fact: Fact::Ended,
+        })?;
+        questions.push(Conditions::of(all))?;
+    }
+    Ok(questions)
+}
 
 /// The conditions that a question's text asks for. `number` is that of the question, from 1.
 pub(crate) fn question_of(
@@ -17,7 +35,7 @@ pub(crate) fn question_of(
     let mut all = Vec::new(alloc);
     let mut at = 0;
     for _condition in 0..phrase.len() {
-        let Some(end) = take_condition(&phrase, at, &mut all)? else {
+        let Some(end) = take_condition(alloc, &phrase, at, &mut all)? else {
             return Err(fault(number, at));
         };
         if phrase.len() <= end {
@@ -40,6 +58,7 @@ fn fault(question: usize, place: usize) -> Failure {
 
 // Adds the conditions of the words at this place. Returns the place behind them, if they are some.
 fn take_condition(
+    alloc: Global,
     phrase: &Phrase,
     at: usize,
     all: &mut Vec<Condition>,
@@ -49,6 +68,9 @@ fn take_condition(
     }
     let holds = !phrase.has(at, b"not");
     let place = if holds { at } else { at.saturating_add(1) };
+    if phrase.has(place, b"shows") {
+        return take_text(alloc, phrase, place, holds, all);
+    }
     match fact_at(phrase, place) {
         Some((fact, end)) => {
             all.push(Condition { holds, fact })?;
@@ -56,4 +78,40 @@ fn take_condition(
         }
         None => Ok(None),
     }
+}
+
+// Adds the fact `shows N "TEXT"` at this place, or that it doesn't hold.
+fn take_text(
+    alloc: Global,
+    phrase: &Phrase,
+    at: usize,
+    holds: bool,
+    all: &mut Vec<Condition>,
+) -> Result<Option<usize>, NoMemory> {
+    let Some(n) = console_of(phrase.at(at.saturating_add(1))) else {
+        return Ok(None);
+    };
+    let Some(text) = quoted_text(phrase.at(at.saturating_add(2))) else {
+        return Ok(None);
+    };
+    all.push(Condition {
+        holds,
+        fact: Fact::Shows(n, Bytes::from_slice(alloc, text)?),
+    })?;
+    Ok(Some(at.saturating_add(3)))
+}
+
+// The text between the quotes of a word: at least one printable character of ASCII, and no quote.
+fn quoted_text(word: &[u8]) -> Option<&[u8]> {
+    let (first, rest) = word.split_first()?;
+    let (last, text) = rest.split_last()?;
+    if *first != b'"' || *last != b'"' || text.is_empty() {
+        return None;
+    }
+    for b in text {
+        if *b < b' ' || b'~' < *b || *b == b'"' {
+            return None;
+        }
+    }
+    Some(text)
 }

@@ -46,6 +46,12 @@ fn add_fact(alloc: Global, text: &mut Bytes, fact: &Fact) -> Result<(), NoMemory
             add_with_caller(alloc, text, b"open ", *p)?;
             add_next(alloc, text, u64::from(n.get()))
         }
+        Fact::Shows(n, shown) => {
+            add_with_console(alloc, text, b"shows ", *n)?;
+            add(alloc, text, b" \"")?;
+            add(alloc, text, shown.as_slice())?;
+            add(alloc, text, b"\"")
+        }
         Fact::Ended => add(alloc, text, b"ended"),
         Fact::Stuck => add(alloc, text, b"stuck"),
     }

@@ -2,7 +2,7 @@
 ghost use Rattle.std.specs.Prelude.{◌≡◌, None, cond, IfOk, IsTrue};
 ghost use Rattle.std.specs.List.{list_any};
 ghost use Rattle.key_compile.specs.Compiled.{AreStart, AreTablesOf, Compiles};
-ghost use Rattle.key_compile.specs.Dumpable.{AreFit, is_dumpable};
+ghost use Rattle.key_compile.specs.Dumpable.{is_dumpable};
 ghost use Rattle.key_compile.specs.Entries.{is_alt};
 ghost use Rattle.key_compile.specs.Faults.{compile_fault};
 ghost use Rattle.key_compile.specs.Metas.{metas_below};
@@ -12,7 +12,6 @@ ghost use Rattle.key_compile.specs.Union.{IsSetOf, in_union, union_of};
 
 use crate::entries::put_lines;
 use crate::first_fault::first_fault;
-use crate::laws::compiled_are_dumpable;
 use crate::metas::{has_alt_is_meta, put_metas};
 use crate::pairs::pairs_in;
 use crate::strings::put_strings;
@@ -24,6 +23,7 @@ use std::alloc::Global;
 use vt_base::NoMemory;
 
 /// The tables of the lines of a keymap, or the first fault of the lines.
+#[tactic(auto, using(crate::proofs::for_laws::Dumpable::compiled_are_dumpable))]
 pub fn compile(alloc: Global, lines: &[Line]) -> Result<KeyTables, KeyError>
     ensures value { Compiles lines.now result }
     ensures dumpable { IfOk result (λ tables. IsTrue (is_dumpable tables)) }
@@ -37,19 +37,7 @@ pub fn compile(alloc: Global, lines: &[Line]) -> Result<KeyTables, KeyError>
     let pairs = pairs_in(alloc, lines)?;
     let mut tables = start_tables(alloc, lines, marks.as_slice())?;
     fill_tables(&mut tables, union.as_slice(), lines, pairs.as_slice());
-    are_fit(lines);
-    compiled_are_dumpable();
     Ok(tables)
-}
-
-// Each line is fit; the loop opens them one by one, so that this is known of each.
-fn are_fit(lines: &[Line])
-    ensures { AreFit lines.now }
-{
-    for i in 0..lines.len() {
-        let line = &lines[i];
-        let _ = &line.kind;
-    }
 }
 
 #[tactic(auto, unfolding(crate::specs::Faults::compile_fault))]

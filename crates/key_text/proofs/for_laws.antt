@@ -1,3 +1,4 @@
+pub mod Bounds
 pub mod Elsewhere
 pub mod FirstWords
 pub mod HasWords

@@ -1,4 +1,5 @@
 pub mod Adds
+pub mod Bounded
 pub mod Cut
 pub mod ErrorText
 pub mod Fault
@@ -18,5 +19,6 @@ pub mod Senses
 pub mod Spelled
 pub mod StatementViews
 pub mod Tables
+pub mod Tally
 pub mod View
 pub mod Words

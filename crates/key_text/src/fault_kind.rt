@@ -35,3 +35,6 @@ pub const LONG_STRING: u16 = 11;
 
 /// Too many included texts.
 pub const TOO_MANY_INCLUDES: u16 = 12;
+
+/// Included texts with more bytes together than is allowed.
+pub const TOO_LONG_INCLUDES: u16 = 13;

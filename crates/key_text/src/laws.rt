@@ -1,4 +1,5 @@
 //! Laws of the definitions of keymap texts.
+ghost use Rattle.key_text.specs.Bounded.{BoundsStop};
 ghost use Rattle.key_text.specs.Parted.{FaultsAreFirst, FaultsStop, PlacesTell, StartsThere, TextsFollow};
 ghost use Rattle.key_text.specs.SameWords.{FirstWordsFold, WordsDecide};
 ghost use Rattle.key_text.specs.Senses.{SensesDecide};
@@ -38,4 +39,10 @@ pub fn texts_follow()
 pub fn faults_stop()
     ensures stop { FaultsStop }
     ensures first { FaultsAreFirst }
+{}
+
+/// With a bound on the bytes of the included texts, a text has the lines or the fault that it has
+/// without one, or the fault of the bound.
+pub fn bounds_stop()
+    ensures { BoundsStop }
 {}

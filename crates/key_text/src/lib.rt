@@ -23,6 +23,7 @@ mod reading;
 mod statement;
 mod syms;
 mod table_set;
+mod tally;
 mod word_lines;
 mod words;
 
@@ -30,6 +31,6 @@ pub use fault::{KeyError, KeyFault};
 pub use includes::Includes;
 pub use line::Line;
 pub use line_kind::LineKind;
-pub use reading::parse;
+pub use reading::{parse, parse_within};
 pub use syms::Syms;
 pub use table_set::TableSet;

@@ -4,19 +4,21 @@ ghost use Rattle.std.specs.Option.{option_map};
 ghost use Rattle.key_text.specs.Included.{text_named};
 ghost use Rattle.key_text.specs.Adds.{Adds};
 ghost use Rattle.key_text.specs.Fault.{Fails, Gives};
-ghost use Rattle.key_text.specs.Reading.{at_outer_include, blamed_fault, got_from_include, lines_of, read_row, read_rows, start, within};
+ghost use Rattle.key_text.specs.Reading.{at_outer_include, blamed_fault, got_from_include, lines_after, lines_of, lines_within, read_row, read_rows, start, within};
 ghost use Rattle.key_text.specs.Lines.{StatementView};
 ghost use Rattle.key_text.specs.Rows.{rows_of};
+ghost use Rattle.key_text.specs.Tally.{none_included};
 ghost use Rattle.key_text.specs.declared.fault.KeyFault.{KeyFault};
 
 use crate::fault::{KeyError, KeyFault};
-use crate::fault_kind::{NOT_GIVEN, TOO_DEEP, TOO_MANY_INCLUDES};
+use crate::fault_kind::{NOT_GIVEN, TOO_DEEP, TOO_LONG_INCLUDES, TOO_MANY_INCLUDES};
 use crate::first_word::statement_from;
 use crate::includes::Includes;
 use crate::line::Line;
 use crate::next_row::next_row;
 use crate::placed::{Place, Placed};
 use crate::statement::Statement;
+use crate::tally::Tally;
 use crate::words::{fault, place_of_word, word_at};
 use std::alloc::Global;
 
@@ -49,39 +51,65 @@ struct IncludeAt {
 pub fn parse(alloc: Global, text: &[u8], inc: &Includes) -> Result<Vec<Line>, KeyError>
     ensures { Gives (λ lines. lines.items) result (lines_of inc.now text.now) }
 {
+    read_from(alloc, text, inc, None)
+}
+
+/// The lines of a keymap, or its first fault, where the included texts have at most `most` bytes
+/// together, each as often as it is included.
+#[tactic(auto, unfolding(crate::specs::Reading::lines_within))]
+pub fn parse_within(
+    alloc: Global,
+    text: &[u8],
+    inc: &Includes,
+    most: usize,
+) -> Result<Vec<Line>, KeyError>
+    ensures { Gives (λ lines. lines.items) result (lines_within most inc.now text.now) }
+{
+    read_from(alloc, text, inc, Some(most))
+}
+
+// The lines of a text, where there is so much room for the included texts.
+fn read_from(
+    alloc: Global,
+    text: &[u8],
+    inc: &Includes,
+    room: Option<usize>,
+) -> Result<Vec<Line>, KeyError>
+    ensures { Gives (λ lines. lines.items) result (lines_after (none_included room) inc.now text.now) }
+{
     let mut lines = Vec::new(alloc);
     let depth = Depth {
         left: MOST_DEEP,
         outer: None,
     };
-    read_text(alloc, inc, depth, 0, text, &mut lines)?;
+    let tally = Tally { texts: 0, room };
+    read_text(alloc, inc, depth, tally, text, &mut lines)?;
     Ok(lines)
 }
 
-// Reads a text, after `count` included texts, and adds its lines. Returns the number of texts included by its
-// end.
+// Reads a text, after the included texts of a tally, and adds its lines. Returns the tally at its end.
 #[cycle(reading)]
 fn read_text(
     alloc: Global,
     texts: &Includes,
     depth: Depth,
-    count: u16,
+    tally: Tally,
     text: &[u8],
     out: &mut Vec<Line>,
-) -> Result<u16, KeyError>
+) -> Result<Tally, KeyError>
     ensures { Adds out.old.items out.new.items result
-        (read_rows (within depth.left texts.now) texts.now depth.outer count
+        (read_rows (within depth.left texts.now) texts.now depth.outer tally
         (rows_of start text.now)) }
 {
-    let mut count = count;
+    let mut tally = tally;
     let mut at = 0;
     let mut place = Place { line: 1, column: 1 };
     let mut items = Vec::new(alloc);
     'rows: loop {
         let row = next_row(text, at, place, &mut items)?;
-        count = read_row(alloc, texts, depth, count, row.end, items.as_slice(), out)?;
+        tally = read_row(alloc, texts, depth, tally, row.end, items.as_slice(), out)?;
         if !row.more {
-            return Ok(count);
+            return Ok(tally);
         }
         at = row.at;
         place = row.place;
@@ -95,17 +123,17 @@ fn read_row(
     alloc: Global,
     texts: &Includes,
     depth: Depth,
-    count: u16,
+    tally: Tally,
     end: Place,
     items: &[Placed],
     out: &mut Vec<Line>,
-) -> Result<u16, KeyError>
+) -> Result<Tally, KeyError>
     ensures { Adds out.old.items out.new.items result
-        (read_row (within depth.left texts.now) texts.now depth.outer count end items.now) }
+        (read_row (within depth.left texts.now) texts.now depth.outer tally end items.now) }
 {
     let (word, rest) = match word_at(items) {
         Some(found) => found,
-        None => return Ok(count),
+        None => return Ok(tally),
     };
     let first = depth.outer.unwrap_or(place_of_word(word));
     let said = match statement_from(alloc, end, word, rest) {
@@ -113,14 +141,14 @@ fn read_row(
         Err(error) => return Err(at_outer_include(depth.outer, error)),
     };
     match said {
-        Statement::Nothing => Ok(count),
+        Statement::Nothing => Ok(tally),
         Statement::Means(line) => {
             out.push(Line {
                 kind: line.kind,
                 line: first.line,
                 column: first.column,
             })?;
-            Ok(count)
+            Ok(tally)
         }
         Statement::Includes(name, quoted, bad_end) => {
             let at = IncludeAt {
@@ -129,7 +157,7 @@ fn read_row(
                 quoted: depth.outer.unwrap_or(quoted),
                 bad_end: blamed_end(depth.outer, bad_end),
             };
-            include(alloc, texts, at, count, name.as_slice(), out)
+            include(alloc, texts, at, tally, name.as_slice(), out)
         }
     }
 }
@@ -140,12 +168,12 @@ fn include(
     alloc: Global,
     texts: &Includes,
     at: IncludeAt,
-    count: u16,
+    tally: Tally,
     name: &[u8],
     out: &mut Vec<Line>,
-) -> Result<u16, KeyError>
+) -> Result<Tally, KeyError>
     ensures { Adds out.old.items out.new.items result
-        (got_from_include (within at.left texts.now at.quoted at.first at.bad_end count) at.quoted
+        (got_from_include (within at.left texts.now at.quoted at.first at.bad_end tally) at.quoted
         (text_named name.now texts.now)) }
 {
     let text = match texts.text_named(name) {
@@ -155,8 +183,11 @@ fn include(
     if at.left == 0 {
         return Err(fault(TOO_DEEP, at.first));
     }
-    if count >= MOST_INCLUDES {
+    if tally.texts >= MOST_INCLUDES {
         return Err(fault(TOO_MANY_INCLUDES, at.quoted));
+    }
+    if tally.is_too_long(text.len()) {
+        return Err(fault(TOO_LONG_INCLUDES, at.quoted));
     }
     if let Some(bad_end) = at.bad_end {
         return Err(KeyError::Fault(bad_end));
@@ -165,7 +196,7 @@ fn include(
         left: at.left - 1,
         outer: Some(at.first),
     };
-    read_text(alloc, texts, depth, count + 1, text, out)
+    read_text(alloc, texts, depth, tally.after(text.len()), text, out)
 }
 
 // A fault in an included text, at the outermost include line.

@@ -6,7 +6,7 @@ use Rattle.key_tables.specs.Tables.{Tables}
 use Rattle.key_text.specs.Fault.{◌>>=◌}
 use Rattle.key_text.specs.Included.{Named, with_text}
 use Rattle.key_text.specs.KeymapLine.{KeymapLine}
-use Rattle.key_text.specs.Reading.{lines_of}
+use Rattle.key_text.specs.Reading.{lines_within}
 use Rattle.key_text.specs.declared.fault.KeyError.{KeyError}
 use Rattle.key_text.specs.declared.fault.KeyError.TheVariants as errors
 use Rattle.key_text.specs.declared.fault.KeyFault.{KeyFault}
@@ -24,10 +24,14 @@ abbrev pub lines_unless : List KeymapLine → Option KeyFault → Result (List K
 lines_unless lines None = Ok lines
 lines_unless lines (Some f) = Err f
 
+-- the most bytes of the included texts of a keymap together: 4 MiB
+abbrev pub MOST_INCLUDED : ℕ
+MOST_INCLUDED = 4194304
+
 -- the lines of a keymap, or its first fault: that of a line, or else that of the lines together
 abbrev pub keymap_of : List VtText → List ℕ → Result (List KeymapLine) KeyFault
 keymap_of texts text =
-    lines_of (with_texts [] texts) text >>= λ lines. lines_unless lines (compile_fault lines)
+    lines_within MOST_INCLUDED (with_texts [] texts) text >>= λ lines. lines_unless lines (compile_fault lines)
 
 -- the tables of a keymap that has no fault
 pub record AreTablesIn (texts : List VtText) (text : List ℕ) (tables : Tables) : Type 0 where

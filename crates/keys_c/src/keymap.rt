@@ -5,9 +5,12 @@ ghost use Rattle.keys_c.specs.Keymaps.{Compiles, with_texts};
 use crate::vt_text::VtText;
 use key_compile::compile;
 use key_tables::KeyTables;
-use key_text::{Includes, KeyError, parse};
+use key_text::{Includes, KeyError, parse_within};
 use std::alloc::Global;
 use vt_base::NoMemory;
+
+/// The most bytes of the included texts of a keymap together: 4 MiB.
+const MOST_INCLUDED: usize = 4_194_304;
 
 /// The tables of a keymap, or its first fault.
 pub(crate) fn tables_in(alloc: Global, text: &[u8], texts: &[VtText]) -> Result<KeyTables, KeyError>
@@ -15,7 +18,7 @@ pub(crate) fn tables_in(alloc: Global, text: &[u8], texts: &[VtText]) -> Result<
 {
     let mut includes = Includes::none(alloc);
     add_texts(alloc, texts, &mut includes)?;
-    let lines = parse(alloc, text, &includes)?;
+    let lines = parse_within(alloc, text, &includes, MOST_INCLUDED)?;
     compile(alloc, lines.as_slice())
 }
 

@@ -130,6 +130,13 @@ impl Machine {
         &self.log
     }
 
+    /// How many entries are gone from the journal, at most the greatest u64.
+    pub fn gone(&self) -> u64
+        ensures { result ≡ self.now.gone }
+    {
+        self.gone
+    }
+
     /// The entry of the last call, unless it is gone from the journal.
     pub fn last(&self) -> Option<&Entry>
         ensures { option_copied result ≡ slice_get self.now.log.entries (length self.now.log.entries - 1) }

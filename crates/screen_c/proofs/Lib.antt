@@ -1,3 +1,5 @@
+mod Cases
+mod Fillings
 mod HandleParts
 mod Pieces
 mod Prefixes

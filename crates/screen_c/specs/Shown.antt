@@ -1,5 +1,5 @@
 -- A cell, a colour, the state and an out as C gets them. Spare places are 0.
-use Rattle.std.specs.Prelude.{ℕ, ◌-◌, Bool, true, false, ◌++◌, length, replicate}
+use Rattle.std.specs.Prelude.{ℕ, ◌+◌, ◌*◌, ◌-◌, Bool, true, false, ◌++◌, length, replicate}
 use Rattle.screen_c.specs.declared.vt_cell.VtCell.{VtCell}
 use Rattle.screen_c.specs.declared.vt_colour.VtColour.{VtColour}
 use Rattle.screen_c.specs.declared.vt_modes.VtModes.{VtModes}
@@ -8,6 +8,7 @@ use Rattle.screen_c.specs.declared.vt_state.VtState.{VtState}
 use Rattle.vt_cells.specs.Colours.{Rgb}
 use Rattle.vt_cells.specs.declared.cell.Cell.{Cell}
 use Rattle.vt_canvas.specs.Screen.{Screen}
+use Rattle.vt_redraw.specs.declared.leaving_out.LeftOut.{LeftOut}
 use Rattle.vt_canvas.specs.declared.out.Out.TheVariants.{Bell, Lights, Report, SwitchLast, SwitchTo}
 use Rattle.vt_canvas.specs.declared.out.Out.{Out}
 
@@ -21,6 +22,16 @@ c_colour rgb = record { red = rgb.0; green = rgb.1; blue = rgb.2; spare = 0 }
 abbrev pub c_flag : Bool → ℕ
 c_flag true = 1
 c_flag false = 0
+
+-- the sum of enum vt_left_out
+abbrev pub c_left_out : LeftOut → ℕ
+c_left_out l =
+    c_flag l.cells
+    + 2 * c_flag l.colours
+    + 4 * c_flag l.saved
+    + 8 * c_flag l.region
+    + 16 * c_flag l.origin
+    + 32 * c_flag l.high_bit
 
 -- the modes DECCKM, DECPAM, DECARM and LNM
 abbrev pub c_modes : Screen → VtModes

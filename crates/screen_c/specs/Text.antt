@@ -22,7 +22,15 @@ pub record LacksMemory (old new : List ℕ) (old_count count code : ℕ) : Type 
   pub size : count ≡ old_count
   pub places : new ≡ old
 
+-- one of the first two
+abbrev pub HandsOverFreely : List ℕ → List ℕ → List ℕ → ℕ → ℕ → Type 0
+HandsOverFreely text old new count code = IsWhole text old new count code ⊎ LacksRoom text old new count code
+
 -- one of the three
 abbrev pub HandsOver : List ℕ → List ℕ → List ℕ → ℕ → ℕ → ℕ → Type 0
 HandsOver text old new old_count count code =
     IsWhole text old new count code ⊎ (LacksRoom text old new count code ⊎ LacksMemory old new old_count count code)
+
+-- the length of the text is written
+abbrev pub IsWritten : ℕ → Type 0
+IsWritten code = (code ≡ OK) ⊎ (code ≡ NO_ROOM)

@@ -1,12 +1,13 @@
 //! Writes a text into room that C passes.
 ghost use Rattle.std.specs.Prelude.{◌≡◌, take};
 ghost use Rattle.screen_c.specs.Codes.{OK};
-ghost use Rattle.screen_c.specs.Text.{HandsOver};
+ghost use Rattle.screen_c.specs.Text.{HandsOver, HandsOverFreely};
 
 use crate::code;
 
 /// Writes the text's length, and the text, if there is room for it.
 pub(crate) fn hand_over(text: &[u8], room: &mut [u8], count: &mut usize) -> u8
+    ensures free { HandsOverFreely text.now room.old room.new count.new result }
     ensures text { HandsOver text.now room.old room.new count.old count.new result }
     ensures front { result ≡ OK → take count.new room.new ≡ text.now }
 {

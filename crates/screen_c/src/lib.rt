@@ -3,6 +3,7 @@
 
 mod code;
 mod colours;
+mod columns;
 mod feeding;
 mod handing_over;
 mod handle;
@@ -10,6 +11,7 @@ mod lent_screen;
 mod life;
 mod loan;
 mod marks;
+mod nearing;
 mod owned_screen;
 mod picturing;
 mod reading;

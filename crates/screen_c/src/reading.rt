@@ -5,15 +5,14 @@ ghost use Rattle.screen_c.specs.Codes.{NOTHING, OK, RANGE};
 ghost use Rattle.screen_c.specs.Loans.{IsSameLoan};
 ghost use Rattle.screen_c.specs.Places.{with_items};
 ghost use Rattle.screen_c.specs.Shown.{c_cell, c_state};
-ghost use Rattle.screen_c.specs.Text.{HandsOver};
+ghost use Rattle.screen_c.specs.Text.{HandsOverFreely};
 ghost use Rattle.vt_cells.specs.declared.cell.Cell.{Cell};
 ghost use Rattle.vt_dump.specs.Rows.{cell_text};
 ghost use Rattle.vt_grid.specs.Grid.{HasCellAt, row_at};
 
 use crate::handing_over::hand_over;
 use crate::{OwnedScreen, ScreenLoan, VtCell, VtState, code};
-use std::alloc::Global;
-use vt_dump::text_row;
+use vt_dump::row_characters;
 use vt_grid::Grid;
 
 /// The size, the cursor and the modes.
@@ -78,6 +77,26 @@ pub extern "C" fn vt_lent_screen_row(loan: &mut ScreenLoan, row: u32, cells: &mu
     answer
 }
 
+/// All cells, row by row from the top left.
+#[unsafe(no_mangle)]
+pub extern "C" fn vt_lent_screen_cells(loan: &mut ScreenLoan, cells: &mut [VtCell]) -> u8
+    ensures same { IsSameLoan loan.old loan.new }
+    ensures nothing { IfNone loan.old.value ((result ≡ NOTHING) × (cells.new ≡ cells.old)) }
+    ensures cells { IfSome loan.old.value (λ o. (result ≡ OK)
+        × (cells.new ≡ with_items (flat_map (map c_cell) o.emu.state.grid.cells) cells.old)) }
+{
+    let lent = loan.take();
+    let answer = match lent.get() {
+        None => code::NOTHING,
+        Some(screen) => {
+            put_all(screen.emu.grid(), cells);
+            code::OK
+        }
+    };
+    loan.put(lent);
+    answer
+}
+
 /// The characters of a row in UTF-8.
 #[unsafe(no_mangle)]
 pub extern "C" fn vt_lent_screen_row_text(
@@ -85,20 +104,19 @@ pub extern "C" fn vt_lent_screen_row_text(
     row: u32,
     text: &mut [u8],
     count: &mut usize,
-    alloc: Global,
 ) -> u8
     ensures same { IsSameLoan loan.old loan.new }
     ensures nothing { IfNone loan.old.value ((result ≡ NOTHING) × (text.new ≡ text.old) × (count.new ≡ count.old)) }
     ensures range { IfSome loan.old.value (λ o. o.emu.state.grid.rows ≤ row
         → (result ≡ RANGE) × (text.new ≡ text.old) × (count.new ≡ count.old)) }
     ensures text { IfSome loan.old.value (λ o. row < o.emu.state.grid.rows
-        → HandsOver (flat_map cell_text (row_at o.emu.state.grid row))
-        text.old text.new count.old count.new result) }
+        → HandsOverFreely (flat_map cell_text (row_at o.emu.state.grid row))
+        text.old text.new count.new result) }
 {
     let lent = loan.take();
     let answer = match lent.get() {
         None => code::NOTHING,
-        Some(screen) => screen.row_text(alloc, row, text, count),
+        Some(screen) => screen.row_text(row, text, count),
     };
     loan.put(lent);
     answer
@@ -134,24 +152,19 @@ impl OwnedScreen {
         code::OK
     }
 
-    fn row_text(&self, alloc: Global, row: u32, text: &mut [u8], count: &mut usize) -> u8
+    fn row_text(&self, row: u32, text: &mut [u8], count: &mut usize) -> u8
         ensures range { self.now.emu.state.grid.rows ≤ row
             → (result ≡ RANGE) × (text.new ≡ text.old) × (count.new ≡ count.old) }
         ensures text { row < self.now.emu.state.grid.rows
-            → HandsOver (flat_map cell_text (row_at self.now.emu.state.grid row))
-            text.old text.new count.old count.new result }
+            → HandsOverFreely (flat_map cell_text (row_at self.now.emu.state.grid row))
+            text.old text.new count.new result }
     {
         let grid = self.emu.grid();
         if u32::from(grid.size().rows) <= row {
             return code::RANGE;
         }
-        match text_row(alloc, grid, row as u8) {
-            Err(_) => code::NO_MEMORY,
-            Ok(framed) => {
-                let bytes = framed.as_slice();
-                hand_over(&bytes[1..bytes.len() - 2], text, count)
-            }
-        }
+        let characters = row_characters(grid, row as u8);
+        hand_over(characters.as_slice(), text, count)
     }
 }
 
@@ -165,5 +178,21 @@ fn put_cells(grid: &Grid, y: u8, places: &mut [VtCell])
     while n < count {
         places[n] = VtCell::of(grid.at(y, n as u8));
         n += 1;
+    }
+}
+
+// Writes the cells of all rows into the first places.
+fn put_all(grid: &Grid, places: &mut [VtCell])
+    ensures { places.new ≡ with_items (flat_map (map c_cell) grid.now.cells) places.old }
+{
+    grid.stays_full();
+    let mut n = 0;
+    for y in 0..grid.size().rows {
+        for cell in grid.row(y) {
+            if n < places.len() {
+                places[n] = VtCell::of(cell);
+                n += 1;
+            }
+        }
     }
 }

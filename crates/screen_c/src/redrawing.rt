@@ -1,10 +1,11 @@
 //! A screen as a text that draws it again.
-ghost use Rattle.std.specs.Prelude.{◌≡◌, false, take, IfNone, IfOk, IfSome, IsTrue, None, Some};
+ghost use Rattle.std.specs.Prelude.{◌≡◌, ◌≤◌, false, length, take, IfNone, IfOk, IfSome, IsTrue, None, Some};
 ghost use Rattle.screen_c.specs.Codes.{NOTHING, NOT_DRAWABLE, OK};
 ghost use Rattle.screen_c.specs.Loans.{IsSameLoan};
 ghost use Rattle.screen_c.specs.Marks.{IsAtMark, text_from_mark};
-ghost use Rattle.screen_c.specs.Text.{HandsOver};
+ghost use Rattle.screen_c.specs.Text.{HandsOver, IsWritten};
 ghost use Rattle.vt_redraw.specs.Drawable.{is_redrawable};
+ghost use Rattle.vt_redraw.specs.Lengths.{redraw_most};
 ghost use Rattle.vt_redraw.specs.Redraw.{IsSameSize, Redraws, redraw_of};
 ghost use Rattle.vt_canvas.specs.Screen.{IsWhole, Screen};
 
@@ -32,6 +33,8 @@ pub extern "C" fn vt_lent_screen_redraw(
     ensures again { IfSome loan.old.value (λ o. result ≡ OK → (other : Screen) → IsWhole other
         → IsSameSize other.grid o.emu.state.grid
         → Redraws o.emu.state other (take count.new text.new)) }
+    ensures bound { IfSome loan.old.value (λ o. IsWritten result
+        → count.new ≤ redraw_most o.emu.state.grid.rows o.emu.state.grid.cols) }
 {
     let lent = loan.take();
     let answer = match lent.get() {
@@ -60,6 +63,8 @@ pub extern "C" fn vt_lent_screen_redraw_changes(
     ensures again { IfSome loan.old.value (λ o. result ≡ OK → (other : Screen) → IsWhole other
         → IsAtMark o.mark o.emu.state.grid other.grid
         → Redraws o.emu.state other (take count.new text.new)) }
+    ensures bound { IfSome loan.old.value (λ o. IsWritten result
+        → count.new ≤ redraw_most o.emu.state.grid.rows o.emu.state.grid.cols) }
 {
     let lent = loan.take();
     let answer = match lent.get() {
@@ -79,6 +84,8 @@ impl OwnedScreen {
         ensures again { result ≡ OK → (other : Screen) → IsWhole other
             → IsSameSize other.grid self.now.emu.state.grid
             → Redraws self.now.emu.state other (take count.new text.new) }
+        ensures bound { IsWritten result
+            → count.new ≤ redraw_most self.now.emu.state.grid.rows self.now.emu.state.grid.cols }
     {
         if !redrawable(&self.emu) {
             return code::NOT_DRAWABLE;
@@ -98,6 +105,8 @@ impl OwnedScreen {
         ensures again { result ≡ OK → (other : Screen) → IsWhole other
             → IsAtMark self.now.mark self.now.emu.state.grid other.grid
             → Redraws self.now.emu.state other (take count.new text.new) }
+        ensures bound { IsWritten result
+            → count.new ≤ redraw_most self.now.emu.state.grid.rows self.now.emu.state.grid.cols }
     {
         if !redrawable(&self.emu) {
             return code::NOT_DRAWABLE;
@@ -114,6 +123,8 @@ impl OwnedScreen {
         ensures again { IfOk result (λ text. (other : Screen) → IsWhole other
             → IsAtMark self.now.mark self.now.emu.state.grid other.grid
             → Redraws self.now.emu.state other text.bytes) }
+        ensures short { IfOk result (λ text. length text.bytes
+            ≤ redraw_most self.now.emu.state.grid.rows self.now.emu.state.grid.cols) }
     {
         if let Some(mark) = &self.mark {
             if has_same_size(mark, self.emu.grid()) {

@@ -83,7 +83,7 @@ run_right is_right replay_is legal_is follows_is ends_is s laws p end =
     let right : IsRight o (run_result (run_of p)) =
     is_right o s.turns (run_result (run_of p)) (run_serial o s.turns p end) in
     right_run s laws (run_of p)
-    (at.replayed ∙ ap (replay o.start) (sym at.history) ∙ replay_is o.start log)
-    (legal_is o.start log right.legal)
+    (at.left.replayed ∙ ap (replay o.start) (sym at.history) ∙ replay_is o.start log)
+    (legal_is o.start log (subst (IsLegal o.start) (sym at.history) at.left.legal))
     (follows_is o.start o.programs log right.follows)
     (ends_is o log p.stop right.ends)

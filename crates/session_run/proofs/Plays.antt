@@ -1,5 +1,5 @@
 -- A play that makes one call more.
-use Rattle.std.proofs.Common.{◌≡◌, ℕ, ◌≤◌, Bool, true, false, arith, List, [], ◌∷◌, ◌++◌, length, Option, Some, None, refl, sym, ap, ◌∙◌, subst}
+use Rattle.std.proofs.Common.{◌≡◌, ℕ, ◌≤◌, Bool, true, false, arith, List, [], ◌∷◌, ◌++◌, length, Option, Some, None, refl, sym, ap, ◌∙◌}
 use Rattle.std.proofs.lemmas.List.{length-map, map-append}
 use Rattle.std.proofs.lemmas.Option.{none-some}
 use Rattle.std.specs.Prelude.{◌==◌, count_by, if◌then◌else◌}
@@ -19,8 +19,8 @@ use Rattle.vt_events.specs.declared.event.Event.{Event}
 use Rattle.vt_events.specs.declared.reply.Reply.{Reply}
 use Rattle.vt_events.specs.declared.reply.Reply.TheVariants as reply
 use Rattle.vt_journal.specs.Log.{Logged}
-use Rattle.vt_world.specs.History.{ReplayGrows, replay}
-use Rattle.vt_world.specs.Step.{Outcome, step}
+use Rattle.vt_world.specs.History.{StepsAreEntered, replay}
+use Rattle.vt_world.specs.Step.{HasOutcome, Outcome, step}
 
 reply_twice : (r : Reply) → plain_reply (plain_reply r) ≡ plain_reply r
 reply_twice (reply.Text b) = refl
@@ -36,8 +36,7 @@ pub record Enters (p : ℕ) (e : Event) (program : Program) (before after : Play
   pub seq : ℕ
   pub reply : Reply
   pub few : length before.log.entries ≤ 1_000_000
-  pub stepped :
-      step before.world p e ≡ record { world = after.world; reply = plain_reply reply }
+  pub stepped : HasOutcome (step before.world p e) after.world reply
   pub logged :
       after.log ≡ record before.log { entries = before.log.entries ++ (record { caller = p; seq = seq; event = e; reply = reply }) ∷ [] }
   pub numbered :
@@ -52,11 +51,11 @@ pub record Enters (p : ℕ) (e : Event) (program : Program) (before after : Play
       → AreAfter programs (h ++ entry ∷ []) after.standing
   pub stop : after.stop ≡ before.stop
 
-pub entered : NextIsPlain → ReplayGrows → (o : Setup) (t : Played) (p : ℕ) (e : Event) (program : Program) (before after : Player)
+pub entered : NextIsPlain → StepsAreEntered → (o : Setup) (t : Played) (p : ℕ) (e : Event) (program : Program) (before after : Player)
     → Enters p e program before after → program_of o.programs p ≡ Some program → t.stop ≡ None
     → call_now o t.history p ≡ Some e → IsAt o t before
     → IsAt o (record { history = t.history ++ entry_at o.start t.history p e ∷ []; stop = None }) after
-entered is_plain grows o t p e program before after enters is going now at =
+entered is_plain steps o t p e program before after enters is going now at =
     let h : List Entry = t.history in
     let entry : Entry = record { caller = p; seq = enters.seq; event = e; reply = enters.reply } in
     let new : Entry = entry_at o.start h p e in
@@ -64,10 +63,10 @@ entered is_plain grows o t p e program before after enters is going now at =
     next_now (is_waiting (replay o.start h) p) (next_by o.programs p h) e now in
     let plain : plain_event e ≡ e =
     is_plain program (calls_by p h) e (ap (λ found. next_of found (calls_by p h)) (sym is) ∙ follows) in
-    let stepped : step (replay o.start h) p e ≡ record { world = after.world; reply = plain_reply enters.reply } =
-    subst (λ w. step w p e ≡ record { world = after.world; reply = plain_reply enters.reply }) at.replayed enters.stepped in
     let answer : plain_reply enters.reply ≡ (step (replay o.start h) p e).reply =
-    sym (ap (λ (x : Outcome). x.reply) stepped) in
+    sym (ap (λ (x : Outcome). x.reply) enters.stepped) ∙ ap (λ w. (step w p e).reply) at.left.replayed in
+    let replied : plain_reply new.reply ≡ plain_reply enters.reply =
+    sym (ap plain_reply answer) ∙ reply_twice enters.reply in
     let number : enters.seq ≡ count_by (λ earlier. earlier.caller == p) h =
     enters.numbered o.programs h at.standing in
     let same : plain_entry entry ≡ new =
@@ -81,8 +80,9 @@ entered is_plain grows o t p e program before after enters is going now at =
           ∙ (λ i. at.history i ++ same i ∷ []);
       stop = enters.stop ∙ at.stop ∙ going;
       limits = ap (λ (log : Logged). log.limits) enters.logged ∙ at.limits;
-      replayed = sym (grows o.start h new ∙ ap (λ (x : Outcome). x.world) stepped);
+      left =
+          steps o.start before.world after.world h p e enters.reply new at.left enters.stepped
+          (record { caller = refl; number = refl; event = refl; reply = replied });
       standing =
-          enters.took o.programs h new is at.standing few refl (follows ∙ ap Some (sym plain))
-          (sym (ap plain_reply answer) ∙ reply_twice enters.reply);
+          enters.took o.programs h new is at.standing few refl (follows ∙ ap Some (sym plain)) replied;
     }

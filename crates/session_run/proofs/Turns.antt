@@ -34,7 +34,7 @@ pub now_is : (o : Setup) (t : Played) (view : Player) (p : ℕ) (e : Option Even
     → e ≡ call_now o t.history p
 now_is o t view p e next_is shut at =
     let waits : is_waiting (replay o.start t.history) p ≡ false =
-    sym (ap (λ w. is_waiting w p) at.replayed) ∙ shut in
+    sym (ap (λ w. is_waiting w p) at.left.replayed) ∙ shut in
     next_is ∙ ap (λ b. if b then None else next_by o.programs p t.history) (sym waits)
 
 -- and a caller without a program
@@ -167,6 +167,6 @@ turn_fills o t p e before full none at going now is =
       history = at.history;
       stop = ap Some full_is;
       limits = at.limits;
-      replayed = at.replayed;
+      left = at.left;
       standing = at.standing;
     })

@@ -5,14 +5,14 @@ use Rattle.session_order.specs.Meant.{plain_history}
 use Rattle.session_order.specs.Serial.{IsSerial, Played}
 use Rattle.session_order.specs.Standing.{AreAfter}
 use Rattle.session_run.specs.declared.player.Player.{Player}
-use Rattle.vt_world.specs.History.{replay}
+use Rattle.vt_world.specs.History.{Leaves}
 
 -- the player is at this point of a play
 pub record IsAt (o : Setup) (t : Played) (p : Player) : Type 0 where
   pub history : plain_history p.log.entries ≡ t.history
   pub stop : p.stop ≡ t.stop
   pub limits : p.log.limits ≡ o.limits
-  pub replayed : p.world ≡ replay o.start t.history
+  pub left : Leaves o.start t.history p.world
   pub standing : AreAfter o.programs t.history p.standing
 
 -- the player is at the end of the play of the schedule

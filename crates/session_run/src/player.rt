@@ -31,6 +31,7 @@ impl Player {
     pub(crate) fn open(alloc: Global, s: &Session) -> Result<Player, NoMemory>
         ensures { IfOk result (λ player. IsAt (setup_of s.now) nothing_played player) }
     {
+        legal_grows();
         let limits = s.limits();
         let world = start_of(alloc, s)?;
         let log = Log::with_room(alloc, limits.events, limits.bytes)?;

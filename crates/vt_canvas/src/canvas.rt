@@ -24,7 +24,7 @@ mod settings;
 use crate::side_effect::SideEffect;
 use crate::{BLANK, ScreenState};
 use std::marker::Model;
-use vt_cells::{Cell, Palette};
+use vt_cells::{Cell, Palette, attr_byte, erase_byte};
 use vt_grid::Grid;
 use vt_units::{Mode, Unit};
 
@@ -64,6 +64,22 @@ impl Canvas {
             state,
             attr: BLANK.attr,
             erase: BLANK.attr,
+        }
+    }
+
+    /// The screen of these cells and this state.
+    #[tactic(auto, unfolding(crate::specs::Screen::printed_byte, crate::specs::Screen::erased_byte))]
+    pub fn of(grid: Grid, state: ScreenState) -> Canvas
+        requires { IsWhole (record { grid = grid; state = state }) }
+        ensures { result ≡ record { grid = grid; state = state } }
+    {
+        let attr = attr_byte(&state.pen.attr, &state.pen.look);
+        let erase = erase_byte(&state.pen.attr);
+        Canvas {
+            grid,
+            state,
+            attr,
+            erase,
         }
     }
 

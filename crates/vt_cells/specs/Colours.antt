@@ -1,10 +1,14 @@
 -- Colours of 24 bits and the console's: the colours of the indices from 0 to 255, and how any colour
 -- is folded into one that a text cell can show. The folding is this project's own.
-use Rattle.std.specs.Prelude.{ℕ, Bool, ◌+◌, ◌-◌, ◌*◌, ◌/◌, ◌%◌, ◌==◌, ◌&&◌, ◌||◌, nat_lt, nat_le, max, List, [], ◌∷◌, map, if◌then◌else◌}
+use Rattle.std.specs.Prelude.{ℕ, Bool, ◌+◌, ◌-◌, ◌*◌, ◌/◌, ◌%◌, ◌==◌, ◌&&◌, ◌||◌, nat_lt, nat_le, max, List, [], ◌∷◌, map, if◌then◌else◌, ◌<◌, All}
 
 -- red, green and blue, each from 0 to 255
 abbrev pub Rgb : Type 0
 Rgb = ℕ × ℕ × ℕ
+
+-- red, green and blue are bytes
+abbrev pub AreBytes : List Rgb → Type 0
+AreBytes colours = All (λ (rgb : Rgb). (rgb.0 < 256) × (rgb.1 < 256) × (rgb.2 < 256)) colours
 
 -- a colour with one value in the parts that its number has, red 1, green 2 and blue 4, and another
 -- value in the others

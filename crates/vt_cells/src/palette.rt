@@ -1,5 +1,5 @@
 ghost use Rattle.std.specs.Prelude.{◌≡◌, ◌<◌, length, slice_get, slice_set, Some};
-ghost use Rattle.vt_cells.specs.Colours.{start_palette};
+ghost use Rattle.vt_cells.specs.Colours.{AreBytes, start_palette};
 
 mod same;
 
@@ -14,13 +14,13 @@ pub struct Palette {
 
 impl Model for Palette {
     ghost use Rattle.std.specs.Prelude.{◌≡◌, List, length};
-    ghost use Rattle.vt_cells.specs.Colours.{Rgb};
+    ghost use Rattle.vt_cells.specs.Colours.{AreBytes, Rgb};
 
     ghost Value = { List Rgb };
 
     ghost view = { λ p. p.colours };
 
-    ghost invariant = { λ p. length p.colours ≡ 16 };
+    ghost invariant = { λ p. (length p.colours ≡ 16) × AreBytes p.colours };
 }
 
 impl Palette {
@@ -62,6 +62,7 @@ impl Palette {
     pub fn as_slice(&self) -> &[(u8, u8, u8)]
         ensures colours { result.now ≡ self.now }
         ensures whole { length self.now ≡ 16 }
+        ensures bytes { AreBytes self.now }
     {
         &self.colours
     }

@@ -71,7 +71,8 @@ fn add_text(cell: Cell, out: &mut Bytes)
     }
 }
 
-fn is_shown(c: char) -> bool
+/// Whether the character is shown: it is no control character.
+pub(crate) fn is_shown(c: char) -> bool
     ensures { result ≡ is_shown c }
 {
     matches!(c, ' '..='~' | '\u{A0}'..)

@@ -3,6 +3,7 @@
 #![tactic(auto)]
 
 mod cert_error;
+mod certifying;
 mod comparing;
 mod error_text;
 mod explained;
@@ -19,6 +20,7 @@ mod printing;
 mod reader;
 
 pub use cert_error::CertError;
+pub use certifying::certificate;
 pub use explained::Explained;
 pub use explaining::{accept, explain};
 pub use hop_cause::HopCause;

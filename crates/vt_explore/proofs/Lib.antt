@@ -1,7 +1,10 @@
 mod Calls
+mod Finding
 mod Journals
 mod Likes
-mod Positions
 mod Names
 mod Nevers
 mod Opening
+mod Positions
+mod Rows
+mod Sorted

@@ -1,14 +1,14 @@
 -- If each call after each known order isn't asked for and leads to a known one, none is asked for in any order.
 use Rattle.std.proofs.Common.{◌≡◌, ℕ, ◌+◌, ◌<◌, ◌≤◌, zero, suc, Bool, true, false, ⊎_elim, arith, List, [], ◌∷◌, ◌++◌, length, Option, Some, None, refl, sym, ap, ◌∙◌, subst, append-nil}
-use Rattle.std.proofs.lemmas.Bool.{cases_eq, true≢false}
-use Rattle.std.proofs.lemmas.List.{append_assoc}
+use Rattle.std.proofs.lemmas.Bool.{cases_eq, cases_lt, true≢false}
+use Rattle.std.proofs.lemmas.List.{append_assoc, length_push}
 use Rattle.std.proofs.lemmas.Option.{none-some, same_Some}
 use Rattle.std.specs.Prelude.{is_some, slice_get, if◌then◌else◌}
 use Rattle.vt_explore.proofs.Likes.{alike_more, alike_same, alike_trans, now_alike, step_alike}
-use Rattle.vt_explore.specs.Alike.{AreAlike, Extends, HasLike}
+use Rattle.vt_explore.specs.Alike.{Extends, HasLike}
 use Rattle.session_order.specs.Orders.{after_turn, after_turns, history_of, with_call}
 use Rattle.vt_explore.specs.Questions.{Wants}
-use Rattle.vt_explore.specs.Searches.{AreOpened, IsOpened, Makes, NoneMakes, is_wanted}
+use Rattle.vt_explore.specs.Searches.{AreOpened, AreSorted, IsOpened, Makes, NoneMakes, NoneMakesBefore, is_wanted}
 use Rattle.session_order.specs.Calls.{calls_by, next_of}
 use Rattle.session_order.specs.Ends.{Setup}
 use Rattle.session_order.specs.Follows.{is_waiting}
@@ -19,7 +19,7 @@ use Rattle.session_text.specs.declared.program.Program.{Program}
 use Rattle.vt_events.specs.declared.entry.Entry.{Entry}
 use Rattle.vt_events.specs.declared.event.Event.{Event}
 use Rattle.vt_world.specs.History.{replay}
-use Rattle.vt_world.specs.Step.{Outcome, step}
+use Rattle.vt_world.specs.Step.{Outcome}
 
 -- the last element
 pub get_last : {A : Type 0} (xs : List A) (x : A) → slice_get (xs ++ x ∷ []) (length xs) ≡ Some x
@@ -72,6 +72,7 @@ like_longer o a b h longer like = record {
   at = subst (λ x. slice_get x like.place ≡ Some like.order) (sym longer.is)
       (get_first a longer.more like.place like.order like.at);
   alike = like.alike;
+  few = like.few;
 }
 
 pub opened_longer : (wants : Wants) (o : Setup) (a b : List (List ℕ)) (h : List Entry) (p : ℕ) → Extends a b
@@ -109,21 +110,45 @@ pub now_past : (o : Setup) (h : List Entry) (p : ℕ) → AreOfCallers o.program
 now_past o h p few past =
     now_nobody o h p (program_cases (program_of o.programs p) (λ is. past (few p is)))
 
--- the turn of p leads on to a known order
-turn_like : (wants : Wants) (o : Setup) (known : List (List ℕ)) (n p : ℕ) (h : List Entry) → AreOpened wants o known n
-    → ((k : ℕ) (order : List ℕ) → slice_get known k ≡ Some order → k < n)
-    → HasLike o known h → HasLike o known (after_turn o p h)
-turn_like wants o known n p h opened all like =
-    by_call (call_now o h p) refl
+-- the known orders with fewer calls than this are among the first n
+abbrev AreAmong : Setup → List (List ℕ) → ℕ → ℕ → Type 0
+AreAmong o known n most =
+    (k : ℕ) (order : List ℕ) → slice_get known k ≡ Some order → length (history_of o order) < most → k < n
+
+-- turns take nothing away
+turn_grows : (o : Setup) (p : ℕ) (h : List Entry) → length h ≤ length (after_turn o p h)
+turn_grows o p h = by_call (call_now o h p)
   where
-    by_call : (now : Option Event) → call_now o h p ≡ now → HasLike o known (with_call o p now h)
-    by_call None none = like
-    by_call (Some e) is =
+    by_call : (now : Option Event) → length h ≤ length (with_call o p now h)
+    by_call None = omega arith
+    by_call (Some e) = let more = length_push h (entry_at o.start h p e) in omega (arith, more)
+
+turns_grow : (o : Setup) (order : List ℕ) (h : List Entry) → length h ≤ length (after_turns o order h)
+turns_grow o [] h = omega arith
+turns_grow o (p ∷ order) h =
+    let one = turn_grows o p h in
+    let more = turns_grow o order (after_turn o p h) in
+    omega (arith, one, more)
+
+-- the turn of p leads on to a known order
+turn_like : (wants : Wants) (o : Setup) (known : List (List ℕ)) (n most p : ℕ) (h : List Entry) → AreOpened wants o known n
+    → AreAmong o known n most → length (after_turn o p h) ≤ most
+    → HasLike o known h → HasLike o known (after_turn o p h)
+turn_like wants o known n most p h opened all few like =
+    by_call (call_now o h p) refl few
+  where
+    by_call : (now : Option Event) → call_now o h p ≡ now → length (with_call o p now h) ≤ most
+        → HasLike o known (with_call o p now h)
+    by_call None none small = like
+    by_call (Some e) is small =
         let there : List Entry = history_of o like.order in
+        let longer = length_push h (entry_at o.start h p e) in
+        let low : length there < most = omega (arith, like.few, longer, small) in
         let shown : IsOpened wants o known there p =
-        opened like.place like.order p (all like.place like.order like.at) like.at in
+        opened like.place like.order p (all like.place like.order like.at low) like.at in
         let next : HasLike o known (there ++ entry_at o.start there p e ∷ []) =
         shown.leads e (now_alike o there h p like.alike ∙ is) in
+        let more = length_push there (entry_at o.start there p e) in
         record {
           place = next.place;
           order = next.order;
@@ -131,32 +156,61 @@ turn_like wants o known n p h opened all like =
           alike =
               alike_trans o (history_of o next.order) (there ++ entry_at o.start there p e ∷ []) (h ++ entry_at o.start h p e ∷ [])
               next.alike (alike_more o there h p e like.alike);
+          few = omega (arith, next.few, more, longer, like.few);
         }
 
-reach : (wants : Wants) (o : Setup) (known : List (List ℕ)) (n : ℕ) (order : List ℕ) (h : List Entry)
-    → AreOpened wants o known n → ((k : ℕ) (order : List ℕ) → slice_get known k ≡ Some order → k < n)
+reach : (wants : Wants) (o : Setup) (known : List (List ℕ)) (n most : ℕ) (order : List ℕ) (h : List Entry)
+    → AreOpened wants o known n → AreAmong o known n most → length (after_turns o order h) ≤ most
     → HasLike o known h → HasLike o known (after_turns o order h)
-reach wants o known n [] h opened all like = like
-reach wants o known n (p ∷ order) h opened all like =
-    reach wants o known n order (after_turn o p h) opened all
-    (turn_like wants o known n p h opened all like)
+reach wants o known n most [] h opened all few like = like
+reach wants o known n most (p ∷ order) h opened all few like =
+    let grows = turns_grow o order (after_turn o p h) in
+    reach wants o known n most order (after_turn o p h) opened all few
+    (turn_like wants o known n most p h opened all (omega (arith, grows, few)) like)
 
-pub never_from : (wants : Wants) (o : Setup) (known : List (List ℕ)) (n : ℕ) → HasLike o known []
-    → AreOpened wants o known n → slice_get known n ≡ None → NoneMakes wants o
-never_from wants o known n start opened none order p makes =
-    let all : (k : ℕ) (order : List ℕ) → slice_get known k ≡ Some order → k < n =
-    λ k order is. none_past known n k order none is in
+none_among : (wants : Wants) (o : Setup) (known : List (List ℕ)) (n most : ℕ) → HasLike o known []
+    → AreOpened wants o known n → AreAmong o known n most → (order : List ℕ) (p : ℕ)
+    → length (history_of o order) < most → Makes wants o (history_of o order) p → ⊥
+none_among wants o known n most start opened all order p few makes =
     let h : List Entry = history_of o order in
-    let like : HasLike o known h = reach wants o known n order [] opened all start in
+    let like : HasLike o known h = reach wants o known n most order [] opened all (omega (arith, few)) start in
     let there : List Entry = history_of o like.order in
+    let low : length there < most = omega (arith, like.few, few) in
     let shown : IsOpened wants o known there p =
-    opened like.place like.order p (all like.place like.order like.at) like.at in
+    opened like.place like.order p (all like.place like.order like.at low) like.at in
     let other : is_wanted wants (replay o.start there) p makes.call ≡ false =
     shown.other makes.call (now_alike o there h p like.alike ∙ makes.now) in
     let same : is_wanted wants (replay o.start there) p makes.call ≡ is_wanted wants (replay o.start h) p makes.call =
     ap (λ (x : Outcome). wants p makes.call x.reply x.world)
     (step_alike (replay o.start there) (replay o.start h) p makes.call like.alike.world) in
     true≢false (sym makes.wanted ∙ sym same ∙ other)
+
+-- if all known orders are opened, no order makes a call that is asked for
+pub never_from : (wants : Wants) (o : Setup) (known : List (List ℕ)) (n : ℕ) → HasLike o known []
+    → AreOpened wants o known n → slice_get known n ≡ None → NoneMakes wants o
+never_from wants o known n start opened none order p makes =
+    none_among wants o known n (length (history_of o order) + 1) start opened
+    (λ k other is few. none_past known n k other none is) order p (omega arith) makes
+
+-- if the first n known orders are opened, none makes one after fewer calls than the next one has
+pub none_before : (wants : Wants) (o : Setup) (known : List (List ℕ)) (n most : ℕ) (last : List ℕ) → HasLike o known []
+    → AreOpened wants o known n → AreSorted o known most → slice_get known n ≡ Some last
+    → NoneMakesBefore wants o (length (history_of o last))
+none_before wants o known n most last start opened sorted here order p makes =
+    let few : ℕ = length (history_of o last) in
+    ⊎_elim
+    (λ low. absurd (none_among wants o known n few start opened among order p low makes))
+    (λ past. omega (arith, past))
+    (cases_lt (length (history_of o order)) few)
+  where
+    among : AreAmong o known n (length (history_of o last))
+    among k other is low =
+        ⊎_elim
+        (λ before. before)
+        (λ past.
+        let rises = sorted.rises n k last other (omega (arith, past)) here is in
+        absurd (let no : ⊥ = omega (arith, rises, low) in no))
+        (cases_lt k n)
 
 below : (k n : ℕ) → k < n + 1 → (k ≡ n → ⊥) → k < n
 below k n low apart = omega (arith, low, apart)
@@ -197,4 +251,5 @@ like_itself o known order h is = record {
   order = order;
   at = get_last known order;
   alike = alike_same o (history_of o order) h is;
+  few = let same = ap length is in omega (arith, same);
 }

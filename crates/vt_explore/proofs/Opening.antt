@@ -32,9 +32,8 @@ opened_call wants o known h p e r m now made isnt like = record {
 
 pub found_call : (wants : Wants) (o : Setup) (order longer : List ℕ) (p : ℕ) (e : Event) (r : Reply) (m : Position)
     → call_now o (history_of o order) p ≡ Some e → HasMade o (history_of o order) p e r m
-    → wants p e (plain_reply r) m.world ≡ true → longer ≡ order ++ p ∷ [] → EndsAsked wants o longer
+    → wants p e (plain_reply r) m.world ≡ true → longer ≡ order ++ p ∷ [] → EndsAsked wants o order longer
 found_call wants o order longer p e r m now made is parts = record {
-  before = order;
   last = p;
   parts = parts;
   makes = record { call = e; now = now; wanted = asked_is wants o (history_of o order) p e r m made ∙ is };

@@ -1,5 +1,5 @@
 -- Histories after which everything goes on alike. This project's own.
-use Rattle.std.specs.Prelude.{◌≡◌, ℕ, ◌++◌, List, map, Some, slice_get}
+use Rattle.std.specs.Prelude.{◌≡◌, ◌≤◌, ℕ, ◌++◌, List, length, map, Some, slice_get}
 use Rattle.session_order.specs.Calls.{as_meant, calls_by, next_of}
 use Rattle.session_order.specs.Ends.{Setup}
 use Rattle.session_text.specs.Programs.{Call, program_of}
@@ -17,12 +17,13 @@ pub record AreAlike (o : Setup) (a b : List Entry) : Type 0 where
       → next_of (program_of o.programs p) (calls_by p a ++ map as_meant more)
       ≡ next_of (program_of o.programs p) (calls_by p b ++ map as_meant more)
 
--- one of these orders has a history like this one
+-- one of these orders has a history like this one, with no more entries
 pub record HasLike (o : Setup) (known : List (List ℕ)) (history : List Entry) : Type 0 where
   pub place : ℕ
   pub order : List ℕ
   pub at : slice_get known place ≡ Some order
   pub alike : AreAlike o (history_of o order) history
+  pub few : length (history_of o order) ≤ length history
 
 -- new is old with more orders at its end
 pub record Extends (old new : List (List ℕ)) : Type 0 where

@@ -10,6 +10,7 @@ use Rattle.vt_events.specs.declared.event.Event.{Event}
 use Rattle.vt_events.specs.declared.reply.Reply.{Reply}
 use Rattle.vt_events.specs.declared.reply.Reply.TheVariants as reply
 use Rattle.vt_explore.specs.Questions.{Wants}
+use Rattle.vt_explore.specs.Shows.{shows}
 use Rattle.vt_explore.specs.declared.fact.Condition.{Condition}
 use Rattle.vt_explore.specs.declared.fact.Fact.{Fact}
 use Rattle.vt_explore.specs.declared.fact.Fact.TheVariants as fact
@@ -105,6 +106,7 @@ fact_holds (fact.Lives q) p e r w = is_live w.callers q
 fact_holds (fact.Waiting q) p e r w = is_waiting w q
 fact_holds (fact.Signals q s) p e r w = has_this s (caller_at w.callers q).pending
 fact_holds (fact.Open q n) p e r w = has_open (caller_at w.callers q).opens n
+fact_holds (fact.Shows n text) p e r w = shows w n text.bytes
 fact_holds fact.Ended p e r w = is_ended w
 fact_holds fact.Stuck p e r w = is_stuck w
 

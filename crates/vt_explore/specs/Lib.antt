@@ -1,5 +1,7 @@
 pub mod Alike
 pub mod Facts
+pub mod Findings
 pub mod Positions
 pub mod Questions
 pub mod Searches
+pub mod Shows

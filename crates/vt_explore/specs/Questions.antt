@@ -1,7 +1,7 @@
 -- Questions about the calls of a session, and their answers over all its histories. This project's own.
-use Rattle.std.specs.Prelude.{◌≡◌, ⊤, ℕ, Bool, true, List, [], ◌∷◌, ◌++◌, take, Some, slice_get}
-use Rattle.vt_explore.specs.declared.outcome.Answer.{Answer}
-use Rattle.vt_explore.specs.declared.outcome.Answer.TheVariants as answer
+use Rattle.std.specs.Prelude.{◌≡◌, ◌≤◌, ⊤, ℕ, Bool, true, List, [], ◌∷◌, ◌++◌, length, take, Option, Some, None, slice_get}
+use Rattle.vt_explore.specs.declared.outcome.End.{End}
+use Rattle.vt_explore.specs.declared.outcome.End.TheVariants as stop
 use Rattle.session_order.specs.Follows.{Follows}
 use Rattle.session_order.specs.Orders.{history_of}
 use Rattle.session_order.specs.Sessions.{IsRightHistory, setup_of, start_of}
@@ -24,15 +24,6 @@ IsAsked wants start before entry =
     wants entry.caller (plain_event entry.event) (plain_reply entry.reply) (replay start (before ++ entry ∷ []))
     ≡ true
 
--- the history of this order is legal and follows the programs, and its last entry is asked for
-pub record IsFound (wants : Wants) (s : SessionView) (order : List ℕ) : Type 0 where
-  pub before : List Entry
-  pub last : Entry
-  pub history : history_of (setup_of s) order ≡ before ++ last ∷ []
-  pub legal : IsLegal (start_of s) (before ++ last ∷ [])
-  pub follows : Follows (start_of s) s.programs (before ++ last ∷ [])
-  pub asked : IsAsked wants (start_of s) before last
-
 -- no history that is legal and follows the programs, ended or not, has an entry that is asked for
 abbrev pub IsNever : Wants → SessionView → Type 0
 IsNever wants s =
@@ -40,17 +31,50 @@ IsNever wants s =
     → Follows (start_of s) s.programs history → slice_get history k ≡ Some entry
     → IsAsked wants (start_of s) (take k history) entry → ⊥
 
--- the answer is right; no limit claims anything
-abbrev pub IsRightAnswer : Wants → SessionView → Answer → Type 0
-IsRightAnswer wants s (answer.Found order) = IsFound wants s order
-IsRightAnswer wants s answer.Never = IsNever wants s
-IsRightAnswer wants s answer.Limit = ⊤
-IsRightAnswer wants s answer.Long = ⊤
+-- no such history has an entry that is asked for with fewer than n entries before it
+abbrev pub IsNotBefore : Wants → SessionView → ℕ → Type 0
+IsNotBefore wants s n =
+    (history : List Entry) (k : ℕ) (entry : Entry) → IsLegal (start_of s) history
+    → Follows (start_of s) s.programs history → slice_get history k ≡ Some entry
+    → IsAsked wants (start_of s) (take k history) entry → n ≤ k
 
--- a fact of an answer that is the limit
-abbrev pub IfLimit : Answer → Type 0 → Type 0
-IfLimit answer.Limit fact = fact
-IfLimit a fact = ⊤
+-- the history of this order is legal and follows the programs, its last entry is asked for, and no shorter history
+-- has such an entry
+pub record IsFound (wants : Wants) (s : SessionView) (order : List ℕ) : Type 0 where
+  pub before : List Entry
+  pub last : Entry
+  pub history : history_of (setup_of s) order ≡ before ++ last ∷ []
+  pub legal : IsLegal (start_of s) (before ++ last ∷ [])
+  pub follows : Follows (start_of s) s.programs (before ++ last ∷ [])
+  pub asked : IsAsked wants (start_of s) before last
+  pub shortest : IsNotBefore wants s (length before)
+
+-- each order that was found is one for the question at its place
+abbrev pub AreFound : List Wants → SessionView → List (Option (List ℕ)) → Type 0
+AreFound questions s found =
+    (i : ℕ) (wants : Wants) (order : List ℕ) → slice_get questions i ≡ Some wants
+    → slice_get found i ≡ Some (Some order) → IsFound wants s order
+
+-- where none was found, there is none
+abbrev pub AreNever : List Wants → SessionView → List (Option (List ℕ)) → Type 0
+AreNever questions s found =
+    (i : ℕ) (wants : Wants) → slice_get questions i ≡ Some wants → slice_get found i ≡ Some None
+    → IsNever wants s
+
+-- a fact of a search that tried every order
+abbrev pub IfWhole : End → Type 0 → Type 0
+IfWhole stop.Whole fact = fact
+IfWhole end fact = ⊤
+
+-- a fact of a search that has an order for each question
+abbrev pub IfAnswered : End → Type 0 → Type 0
+IfAnswered stop.Answered fact = fact
+IfAnswered end fact = ⊤
+
+-- a fact of a search that came to its limit
+abbrev pub IfLimit : End → Type 0 → Type 0
+IfLimit stop.Limit fact = fact
+IfLimit end fact = ⊤
 
 -- if no such history has one, no right history of the session has one: that of a journal, ended or full
 abbrev pub NeverInJournals : Type 0

@@ -1,5 +1,5 @@
 -- Searches over orders. Public clauses name only `OpenedAreAll`.
-use Rattle.std.specs.Prelude.{◌≡◌, ◌<◌, ⊤, ℕ, Bool, true, false, List, [], ◌∷◌, ◌++◌, Some, None, slice_get}
+use Rattle.std.specs.Prelude.{◌≡◌, ◌<◌, ◌≤◌, ⊤, ℕ, Bool, true, false, List, [], ◌∷◌, ◌++◌, length, Some, None, slice_get}
 use Rattle.vt_explore.specs.Alike.{HasLike}
 use Rattle.vt_explore.specs.Questions.{Wants}
 use Rattle.vt_explore.specs.declared.tried.Tried.{Tried}
@@ -23,9 +23,8 @@ pub record Makes (wants : Wants) (o : Setup) (history : List Entry) (p : ℕ) : 
   pub now : call_now o history p ≡ Some call
   pub wanted : is_wanted wants (replay o.start history) p call ≡ true
 
--- the last turn of this order makes a call that is asked for
-pub record EndsAsked (wants : Wants) (o : Setup) (order : List ℕ) : Type 0 where
-  pub before : List ℕ
+-- the order has one turn more than `before`, and that turn makes a call that is asked for
+pub record EndsAsked (wants : Wants) (o : Setup) (before order : List ℕ) : Type 0 where
   pub last : ℕ
   pub parts : order ≡ before ++ last ∷ []
   pub makes : Makes wants o (history_of o before) last
@@ -33,6 +32,17 @@ pub record EndsAsked (wants : Wants) (o : Setup) (order : List ℕ) : Type 0 whe
 -- no order makes a call that is asked for
 abbrev pub NoneMakes : Wants → Setup → Type 0
 NoneMakes wants o = (order : List ℕ) (p : ℕ) → Makes wants o (history_of o order) p → ⊥
+
+-- no order makes a call that is asked for directly after fewer than n calls
+abbrev pub NoneMakesBefore : Wants → Setup → ℕ → Type 0
+NoneMakesBefore wants o n =
+    (order : List ℕ) (p : ℕ) → Makes wants o (history_of o order) p → n ≤ length (history_of o order)
+
+-- the order ends with a call that is asked for, and no order makes one after fewer calls
+pub record IsFirst (wants : Wants) (o : Setup) (order : List ℕ) : Type 0 where
+  pub before : List ℕ
+  pub ends : EndsAsked wants o before order
+  pub first : NoneMakesBefore wants o (length (history_of o before))
 
 -- each call that p can make after this history isn't asked for, and leads to a history like one of these orders'
 pub record IsOpened (wants : Wants) (o : Setup) (known : List (List ℕ)) (history : List Entry)
@@ -50,15 +60,18 @@ AreOpened wants o known n =
     (k : ℕ) (order : List ℕ) (p : ℕ) → k < n → slice_get known k ≡ Some order
     → IsOpened wants o known (history_of o order) p
 
+-- no known order has more calls than a later one, and none has more than `most`
+pub record AreSorted (o : Setup) (known : List (List ℕ)) (most : ℕ) : Type 0 where
+  pub rises :
+      (j k : ℕ) (a b : List ℕ) → j ≤ k → slice_get known j ≡ Some a → slice_get known k ≡ Some b
+      → length (history_of o a) ≤ length (history_of o b)
+  pub few : (k : ℕ) (a : List ℕ) → slice_get known k ≡ Some a → length (history_of o a) ≤ most
+
 -- if the start is known, and all known orders are opened, no call is asked for in any order
 abbrev pub OpenedAreAll : Type 0
 OpenedAreAll =
     (wants : Wants) (o : Setup) (known : List (List ℕ)) (n : ℕ) → HasLike o known [] → AreOpened wants o known n
     → slice_get known n ≡ None → NoneMakes wants o
-
-abbrev pub IfFound : Tried → (List ℕ → Type 0) → Type 0
-IfFound (tried.Found order) says = says order
-IfFound t says = ⊤
 
 abbrev pub IfKnown : Tried → Type 0 → Type 0
 IfKnown tried.Known fact = fact

@@ -7,6 +7,7 @@ ghost use Rattle.vt_explore.specs.Facts.{fact_holds, has_this, is_ended, is_met,
 ghost use Rattle.vt_procs.specs.Callers.{is_live};
 
 use crate::pattern::{fits_answer, fits_call};
+use crate::shows::shows;
 use crate::{Condition, Fact, Question};
 use std::marker::Model;
 use vt_base::{CallerNo, ConsoleNo, SigSet, Signal};
@@ -103,6 +104,7 @@ fn fact_holds(fact: &Fact, caller: CallerNo, event: &Event, reply: &Reply, after
         Fact::Waiting(q) => after.waiting(*q),
         Fact::Signals(q, s) => has_this(*s, after.signals_of(*q)),
         Fact::Open(q, n) => after.has_open(*q, *n),
+        Fact::Shows(n, text) => shows(after, *n, text.as_slice()),
         Fact::Ended => is_ended(after),
         Fact::Stuck => is_stuck(after),
     }

@@ -1,67 +1,106 @@
-ghost use Rattle.std.specs.Prelude.{◌<◌, IfOk};
-ghost use Rattle.vt_explore.specs.Questions.{IfLimit, IsRightAnswer};
+ghost use Rattle.std.specs.Prelude.{◌≡◌, ◌<◌, ℕ, List, [], ◌∷◌, Some, None, IfOk, OnOk, true, length, map, slice_get};
+ghost use Rattle.session_order.specs.Sessions.{setup_of};
+ghost use Rattle.vt_explore.specs.Findings.{AreFirst, AreFoundFor, AreNone, is_found};
+ghost use Rattle.vt_explore.specs.Positions.{IsAfter};
+ghost use Rattle.vt_explore.specs.Questions.{AreFound, AreNever, IfAnswered, IfLimit, IfWhole};
 
+use crate::findings::Findings;
 use crate::position::Position;
 use crate::search::Search;
 use crate::spares::Spares;
 use crate::tried::Tried;
-use crate::{Answer, Outcome, Question};
+use crate::{End, Outcome, Progress, Question};
 use session_order::{meant_laws, order_laws, session_laws};
 use session_text::Session;
 use std::alloc::Global;
 use vt_base::NoMemory;
 use vt_world::legal_grows;
 
-/// Goes through the orders of the session's calls, those with fewer turns first, until a call is made that the
-/// question asks for, or `limit` orders that lead to different states are opened.
-pub fn explore<Q: Question>(
+/// Goes through the orders of the session's calls, those with fewer turns first, until it has for each question
+/// an order in which a call is made that the question asks for, or has opened `limit` orders that lead to
+/// different states. If `whole`, it goes on after it has them.
+pub fn explore<Q: Question, P: Progress>(
     alloc: Global,
     s: &Session,
-    question: &Q,
+    questions: &[Q],
     limit: usize,
+    whole: bool,
+    progress: &mut P,
 ) -> Result<Outcome, NoMemory>
-    ensures right { IfOk result (λ outcome. IsRightAnswer (Q.wants question.now) s.now outcome.answer) }
-    ensures limit { IfOk result (λ outcome. IfLimit outcome.answer (limit < outcome.states)) }
+    ensures places { IfOk result (λ outcome. length outcome.found ≡ length questions.now) }
+    ensures found { IfOk result (λ outcome. AreFound (map Q.wants questions.now) s.now outcome.found) }
+    ensures never { IfOk result (λ outcome.
+        IfWhole outcome.end (AreNever (map Q.wants questions.now) s.now outcome.found)) }
+    ensures limit { IfOk result (λ outcome. IfLimit outcome.end (limit < outcome.states)) }
+    ensures answered { IfOk result (λ outcome.
+        IfAnswered outcome.end ((i : ℕ) → slice_get outcome.found i ≡ Some None → ⊥)) }
 {
     session_laws(s);
     order_laws();
     meant_laws();
     legal_grows();
     let start = Position::start(alloc, s)?;
-    let mut spares = Spares::new(alloc);
+    let mut findings = Findings::none(alloc);
     let mut search = Search::start(alloc, &start)?;
+    let end = go_through(
+        alloc,
+        s,
+        questions,
+        limit,
+        whole,
+        progress,
+        &start,
+        &mut search,
+        &mut findings,
+    )?;
+    let found = findings.orders(alloc, questions.len())?;
+    Ok(Outcome {
+        found,
+        end,
+        states: search.len(),
+        calls: search.calls(),
+    })
+}
+
+// Opens the known orders one after another. Returns where it ended.
+fn go_through<Q: Question, P: Progress>(
+    alloc: Global,
+    s: &Session,
+    questions: &[Q],
+    limit: usize,
+    whole: bool,
+    progress: &mut P,
+    start: &Position,
+    search: &mut Search,
+    findings: &mut Findings,
+) -> Result<End, NoMemory>
+    requires start { IsAfter (setup_of s.now) [] start.now }
+    requires search { search.now ≡ [] ∷ [] }
+    requires findings { findings.now ≡ [] }
+    ensures first { OnOk result (AreFirst (map Q.wants questions.now) (setup_of s.now) findings.new) }
+    ensures none { IfOk result (λ end.
+        IfWhole end (AreNone (map Q.wants questions.now) (setup_of s.now) findings.new)) }
+    ensures limit { IfOk result (λ end. IfLimit end (limit < length search.new)) }
+    ensures answered { IfOk result (λ end.
+        IfAnswered end ((i : ℕ) → i < length questions.now → is_found findings.new i ≡ true)) }
+{
+    let mut spares = Spares::new(alloc);
     for next in 0..limit {
         let Some(order) = search.copy_at(alloc, next)? else {
-            return Ok(Outcome {
-                answer: Answer::Never,
-                states: search.len(),
-            });
+            return Ok(End::Whole);
         };
-        let tried = search.expand(alloc, s, question, &start, &mut spares, &order)?;
+        let tried = search.expand(alloc, s, questions, start, &mut spares, findings, &order)?;
         match tried {
-            Tried::Found(found) => {
-                return Ok(Outcome {
-                    answer: Answer::Found(found),
-                    states: search.len(),
-                });
-            }
-            Tried::Full => {
-                return Ok(Outcome {
-                    answer: Answer::Long,
-                    states: search.len(),
-                });
-            }
+            Tried::Full => return Ok(End::Long),
             Tried::Known => {}
+        }
+        progress.tell(search.len());
+        if !whole && findings.have_all(questions.len()) {
+            return Ok(End::Answered);
         }
     }
     if search.has_at_most(limit) {
-        return Ok(Outcome {
-            answer: Answer::Never,
-            states: search.len(),
-        });
+        return Ok(End::Whole);
     }
-    Ok(Outcome {
-        answer: Answer::Limit,
-        states: search.len(),
-    })
+    Ok(End::Limit)
 }

@@ -1,5 +1,5 @@
 use crate::{AnswerPattern, CallPattern};
-use vt_base::{CallerNo, ConsoleNo, Signal};
+use vt_base::{Bytes, CallerNo, ConsoleNo, Signal};
 
 /// A fact of a call and of the machine after it.
 #[derive(Drop)]
@@ -28,6 +28,8 @@ pub enum Fact {
     Signals(CallerNo, Option<Signal>),
     /// `open P N`: P has console N open.
     Open(CallerNo, ConsoleNo),
+    /// `shows N "TEXT"`: a row of console N has this text side by side.
+    Shows(ConsoleNo, Bytes),
     /// `ended`: nobody is alive.
     Ended,
     /// `stuck`: nobody is alive, and either a console waits for the display or the one in front shows graphics.

@@ -1,22 +1,26 @@
-use crate::Order;
+use crate::Orders;
 
-/// The answer to a question about every order.
-#[derive(Drop)]
-pub enum Answer {
-    /// The last turn of this order makes a call that is asked for.
-    Found(Order),
-    /// No order makes one.
-    Never,
-    /// The search came to its limit.
+/// Where a search over every order ended.
+#[derive(Clone, Copy, PartialEq, Eq)]
+pub enum End {
+    /// Every order was tried.
+    Whole,
+    /// An order was found for each question.
+    Answered,
+    /// More orders were kept than the limit allows.
     Limit,
-    /// The search came to an order with 1,000,000 turns after which a call can be made.
+    /// An order has 1,000,000 turns, and a call can be made after it.
     Long,
 }
 
-/// An answer, and how far the search was.
+/// What a search found, and how far it was.
 #[derive(Drop)]
 pub struct Outcome {
-    pub answer: Answer,
+    /// For each question an order whose last turn makes a call that it asks for, if one was found.
+    pub found: Orders,
+    pub end: End,
     /// How many orders were kept: each leads to a state that was told apart from the others.
     pub states: usize,
+    /// How many calls were made from these states.
+    pub calls: u64,
 }

@@ -1,11 +1,7 @@
-use crate::Order;
-
-/// The calls that were tried.
-#[derive(Drop)]
+/// How the calls after an order were tried.
+#[derive(Clone, Copy)]
 pub(crate) enum Tried {
-    /// The last one is asked for.
-    Found(Order),
-    /// None is asked for, and each leads to a machine that is known.
+    /// Each leads to a machine that is known.
     Known,
     /// An order would have too many turns.
     Full,

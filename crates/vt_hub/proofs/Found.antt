@@ -1,5 +1,5 @@
 -- The value that a pass finds under the lock, and the result of its look.
-use Rattle.std.proofs.Common.{◌≡◌, ℕ, ◌+◌, ◌*◌, ◌<◌, ◌≤◌, ◌==◌, List, [], ◌∷◌, ◌++◌, length, Option, Some, None, refl, sym, ap, ◌∙◌, subst, arith, length-append}
+use Rattle.std.proofs.Common.{◌≡◌, ℕ, ◌+◌, ◌*◌, ◌<◌, ◌≤◌, ◌==◌, ◌&&◌, not, List, [], ◌∷◌, ◌++◌, length, Option, Some, None, refl, sym, ap, ◌∙◌, subst, arith, length-append}
 use Rattle.std.proofs.lemmas.List.{length-map}
 use Rattle.std.proofs.lemmas.List.Sums.{count_by-le-length, length-filter}
 use Rattle.turn_lock.specs.History.{IsWordIn, word_of}
@@ -16,12 +16,13 @@ use Rattle.vt_events.specs.Charge.{charge_of}
 use Rattle.vt_events.specs.declared.entry.Entry.{Entry}
 use Rattle.vt_events.specs.declared.event.Event.{Event}
 use Rattle.vt_events.specs.declared.reply.Reply.{Reply}
-use Rattle.vt_hub.specs.Answers.{Called, Stopped, Waited}
+use Rattle.vt_hub.specs.Answers.{Called, Stopped, Waited, WakesEnded}
 use Rattle.vt_hub.specs.Histories.{BeginsWith, IsRead, awaits, made_by}
 use Rattle.vt_hub.specs.Places.{known_by}
 use Rattle.vt_hub.specs.Shared.{Enters, IsSound, SharedView, Stops, Waits}
 use Rattle.vt_hub.specs.Carrying.{Carried, display_of, plain, carried_entries, carried_entry}
 use Rattle.vt_hub.specs.Views.{PassView}
+use Rattle.vt_hub.specs.Waiters.{AreEnded, IsProcess, has_process}
 use Rattle.vt_hub.proofs.Carried.{begins_more, begins_plain, first_display, front_after, made_carried_entries, plain_more, plain-carried_entries, read_carried_entries, carried_entries_more, word_grown, word_carried_entries}
 use Rattle.vt_hub.proofs.Lists.{made_own}
 use Rattle.vt_journal.specs.Room.{full_at, has_room}
@@ -337,6 +338,25 @@ module _ (start : WorldState) (most : Limits) (number seq : ℕ) (v : View Entry
             mine_is = ap plain after-mine ∙ plain_more v.mine (entry_carried ∷ []);
             stop_is = ap (λ (x : View Entry Full). x.seal) after-whole ∙ enters.goes_on;
           }))
+
+      -- the processes that were woken are those whose tickets this call ended
+      pub wakes : (here : TableId) → IsSound start most s' → (ended woken : ℕ) → AreEnded s.world s'.world ended
+          → ((p : ℕ) → IsProcess p → has_process woken p ≡ has_process ended p)
+          → WakesEnded start (known_by here number after) woken
+      wakes here sound ended woken are same =
+          let whole : plain after.seen ≡ s'.log.entries =
+          ap (λ (x : View Entry Full). plain x.seen) after-whole ∙ plain-carried_entries start s'.log.entries in
+          let old : s.world ≡ replay start s.log.entries = found.sound.replayed in
+          let new : s'.world ≡ replay start (plain after.seen) =
+          sound.replayed ∙ ap (replay start) (sym whole) in record {
+            before = s.log.entries;
+            entry = enters.entry;
+            seen = whole ∙ enters.entries;
+            ended = λ p process.
+                same p process
+                ∙ are p process
+                ∙ (λ i. is_waiting (old i) p && not (is_waiting (new i) p));
+          }
 
     module _ (left : after ≡ without_turn s'.stop held) where
       left-whole : after ≡ without_turn s'.stop (with_turn found.ticket (carried_entries start s.log.entries) s.stop v)

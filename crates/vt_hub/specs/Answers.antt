@@ -1,5 +1,5 @@
 -- The answers to a call of the hub, and the knowledge of its pass then. This project's own.
-use Rattle.std.specs.Prelude.{◌≡◌, ℕ, true, false, List, [], ◌∷◌, ◌++◌, length, Option, Some, None}
+use Rattle.std.specs.Prelude.{◌≡◌, ℕ, true, false, List, [], ◌∷◌, ◌++◌, length, Some, None}
 use Rattle.turn_lock.specs.declared.seal.Seal.{Seal}
 use Rattle.vt_events.specs.Charge.{charge_of}
 use Rattle.vt_events.specs.Plain.{plain_reply}
@@ -8,8 +8,11 @@ use Rattle.vt_events.specs.declared.event.Event.{Event}
 use Rattle.vt_events.specs.declared.reply.Reply.{Reply}
 use Rattle.vt_hub.specs.Histories.{BeginsWith, IsRead, awaits, made_by}
 use Rattle.vt_hub.specs.Views.{PassView}
+use Rattle.vt_hub.specs.Waiters.{AreEnded}
 use Rattle.vt_hub.specs.declared.answer.Answer.{Answer}
 use Rattle.vt_hub.specs.declared.answer.Answer.TheVariants as answer
+use Rattle.vt_hub.specs.declared.turned.Turned.{Turned}
+use Rattle.vt_hub.specs.declared.turned.Turned.TheVariants as turned
 use Rattle.vt_journal.specs.Room.{full_at, has_room}
 use Rattle.vt_journal.specs.declared.full.Full.{Full}
 use Rattle.vt_journal.specs.declared.limits.Limits.{Limits}
@@ -90,7 +93,17 @@ pub record Waited (start : WorldState) (v w : PassView) : Type 0 where
   -- the ticket is open in the history that the pass has seen
   pub still : is_waiting (replay start w.seen) v.number ≡ true
 
--- the result of one look of the pass v with the call e: no answer while its caller's ticket is open
-abbrev pub Turns : WorldState → Limits → Event → PassView → PassView → Option Answer → Type 0
-Turns start most e v w (Some a) = Answers start most e v w a
-Turns start most e v w None = Waited start v w
+-- the set is that of the processes whose tickets the last entry ended of those that the pass has seen
+pub record WakesEnded (start : WorldState) (w : PassView) (set : ℕ) : Type 0 where
+  pub before : List Entry
+  pub entry : Entry
+  pub seen : w.seen ≡ before ++ entry ∷ []
+  pub ended : AreEnded (replay start before) (replay start w.seen) set
+
+-- the result of one turn of the pass v with the call e: an answer, and after an entered call those that were woken; or
+-- none while its caller's ticket is open
+abbrev pub Turns : WorldState → Limits → Event → PassView → PassView → Turned → Type 0
+Turns start most e v w (turned.Done place reply woken) =
+    Called start most e v w place reply × WakesEnded start w woken.bits
+Turns start most e v w (turned.Full full) = Stopped start most e v w full
+Turns start most e v w turned.Waits = Waited start v w

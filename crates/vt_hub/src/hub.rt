@@ -19,6 +19,7 @@ use crate::pass_place::PassPlace;
 use crate::run::Run;
 use crate::shared::Shared;
 use crate::steward::Steward;
+use crate::turned::Turned;
 use crate::wake_ups::WakeUps;
 use std::alloc::Global;
 use std::marker::Model;
@@ -146,13 +147,13 @@ impl<J: Opening> Hub<J> {
     {
         let mut event = event;
         let mut spare = spare;
-        match self.turn(rt, p, &mut event, &mut spare) {
-            Some(answer) => {
-                spare.keep_grid(&mut p.kept);
-                answer
-            }
-            None => unreachable!(),
-        }
+        let answer = match self.turn(rt, p, &mut event, &mut spare) {
+            Turned::Done { at, reply, .. } => Answer::Done { at, reply },
+            Turned::Full(full) => Answer::Full(full),
+            Turned::Waits => unreachable!(),
+        };
+        spare.keep_grid(&mut p.kept);
+        answer
     }
 
     /// Sleeps until the caller's wait in the machine has ended or the hub has stopped, and then enters
@@ -167,24 +168,18 @@ impl<J: Opening> Hub<J> {
             let mut event = Event::WaitEnd;
             let mut none = Spare::none(self.alloc);
             match self.turn(rt, p, &mut event, &mut none) {
-                Some(Answer::Done { at, reply }) => return Answer::Done { at, reply },
-                Some(Answer::Full(full)) => return Answer::Full(full),
-                None => key.wait(rt),
+                Turned::Done { at, reply, .. } => return Answer::Done { at, reply },
+                Turned::Full(full) => return Answer::Full(full),
+                Turned::Waits => key.wait(rt),
             }
         }
         unreachable!()
     }
 
-    // One look of the caller, which enters the call unless its ticket is open, and wakes those whose
-    // tickets it ended. An entered call takes its event, and of its memory the parts that it uses. Both are
+    // One turn of the caller, which enters the call unless its ticket is open, and wakes exactly the processes whose
+    // tickets this call ended. An entered call takes its event, and of its memory the parts that it uses. Both are
     // lent, so that they are not moved through each function.
-    fn turn<R: Wait>(
-        &self,
-        rt: &R,
-        p: &mut Pass<J>,
-        event: &mut Event,
-        spare: &mut Spare,
-    ) -> Option<Answer>
+    fn turn<R: Wait>(&self, rt: &R, p: &mut Pass<J>, event: &mut Event, spare: &mut Spare) -> Turned
         requires own { p.old.hub ≡ self.now }
         requires fits { Fits J.start.rows J.start.cols event.old spare.old }
         ensures { Turns J.start J.limits event.old p.old p.new result }
@@ -200,18 +195,18 @@ impl<J: Opening> Hub<J> {
             Look::Done { at, reply, ended } => {
                 held.publish();
                 held.leave();
-                let _woken = self.wake_ups.wake(ended);
+                let woken = self.wake_ups.wake(ended);
                 p.seq = seq + 1;
-                Some(Answer::Done { at, reply })
+                Turned::Done { at, reply, woken }
             }
             Look::Full(full) => {
                 held.leave();
                 self.wake_ups.wake_all();
-                Some(Answer::Full(full))
+                Turned::Full(full)
             }
             Look::Waits => {
                 held.leave();
-                None
+                Turned::Waits
             }
         }
     }

@@ -13,6 +13,7 @@ mod seat;
 mod shared;
 mod state;
 mod steward;
+mod turned;
 mod waiters;
 mod wake_ups;
 

@@ -3,6 +3,7 @@ mod Does
 mod Glyphs
 mod Joins
 mod Moves
+mod Nearing
 mod Numbers
 mod Overlays
 mod Paints

@@ -2,6 +2,9 @@ pub mod Behind
 pub mod Cells
 pub mod Drawable
 pub mod DrawableRows
+pub mod Lengths
+pub mod Near
+pub mod Nearing
 pub mod Parts
 pub mod Pending
 pub mod Reached

@@ -19,7 +19,8 @@ pub fn redrawable(emu: &Emu) -> bool
     are_rows_drawable(emu.grid()) && is_state_drawable(size.rows, size.cols, emu.state())
 }
 
-fn are_rows_drawable(g: &Grid) -> bool
+/// Whether a text can draw the rows.
+pub(crate) fn are_rows_drawable(g: &Grid) -> bool
     ensures { result ≡ list_all is_row_drawable g.now.cells }
 {
     g.stays_full();
@@ -55,8 +56,9 @@ fn is_row_drawable(g: &Grid, y: u8) -> bool
     !wide
 }
 
+/// Whether the character prints itself.
 #[tactic(auto, unfolding(crate::specs::Drawable::is_glyph))]
-fn is_glyph(code: u32) -> bool
+pub(crate) fn is_glyph(code: u32) -> bool
     ensures { result ≡ is_glyph code }
 {
     matches!(code, 0x20..=0x7E | 0xA0..=0xD7FF | 0xE000..=0x10FFFF) && 1 <= columns(code)
@@ -77,7 +79,8 @@ fn is_state_drawable(rows: u8, cols: u8, s: &ScreenState) -> bool
         && (!s.pen.toggle || s.pen.alt)
 }
 
-fn is_plain_pair(a: &Attr) -> bool
+/// Whether SGR has numbers for the colours.
+pub(crate) fn is_plain_pair(a: &Attr) -> bool
     ensures { result ≡ is_plain_pair a.now }
 {
     a.fg < 8 && a.bg < 8

@@ -1,14 +1,18 @@
 //! The whole text of a screen.
-ghost use Rattle.std.specs.Prelude.{◌≡◌, ◌<◌, ◌≤◌, ◌++◌, IfOk, IsTrue, OnOk};
+ghost use Rattle.std.specs.Prelude.{◌≡◌, ◌<◌, ◌≤◌, ◌++◌, length, IfOk, IsTrue, OnOk};
 ghost use Rattle.vt_redraw.specs.Cells.{changed_rows};
 ghost use Rattle.vt_redraw.specs.Drawable.{is_redrawable};
+ghost use Rattle.vt_redraw.specs.Lengths.{redraw_most};
+ghost use Rattle.vt_redraw.specs.Near.{near};
 ghost use Rattle.vt_redraw.specs.Redraw.{IsSameSize, Redraws, changes_of, redraw_of};
 ghost use Rattle.vt_canvas.specs.Screen.{IsWhole, Screen};
 
 use crate::cells::add_row;
+use crate::drawable::redrawable;
 use crate::filled_rows::add_rows_but;
-use crate::laws::screens_redraw;
+use crate::laws::{near_is_drawn, redraws_are_short, screens_redraw};
 use crate::modes::{add_clearing, add_setting};
+use crate::nearest::near;
 use crate::state::add_state;
 use crate::stored::stays_stored;
 use std::alloc::Global;
@@ -29,8 +33,11 @@ pub fn redraw(alloc: Global, emu: &Emu) -> Result<Bytes, NoMemory>
     ensures again { IfOk result
         (λ text. (other : Screen) → IsWhole other → IsSameSize other.grid emu.now.state.grid
         → Redraws emu.now.state other text.bytes) }
+    ensures short { IfOk result
+        (λ text. length text.bytes ≤ redraw_most emu.now.state.grid.rows emu.now.state.grid.cols) }
 {
     screens_redraw();
+    redraws_are_short();
     stays_stored(emu);
     let text = whole_text(alloc, emu)?;
     Ok(text)
@@ -45,11 +52,50 @@ pub fn redraw_changes(alloc: Global, old: &Grid, emu: &Emu) -> Result<Bytes, NoM
     ensures again { IfOk result
         (λ text. (other : Screen) → IsWhole other → other.grid ≡ old.now
         → Redraws emu.now.state other text.bytes) }
+    ensures short { IfOk result
+        (λ text. length text.bytes ≤ redraw_most emu.now.state.grid.rows emu.now.state.grid.cols) }
 {
     screens_redraw();
+    redraws_are_short();
     stays_stored(emu);
     let text = changes_text(alloc, old, emu)?;
     Ok(text)
+}
+
+/// The text of [`redraw`] for the nearest screen that a text can draw ([`near`]): that of the screen itself if it is
+/// redrawable. This project's own.
+pub fn redraw_near(alloc: Global, emu: &Emu) -> Result<Bytes, NoMemory>
+    ensures text { IfOk result (λ text. text.bytes ≡ redraw_of (near emu.now.state)) }
+    ensures again { IfOk result
+        (λ text. (other : Screen) → IsWhole other → IsSameSize other.grid emu.now.state.grid
+        → Redraws (near emu.now.state) other text.bytes) }
+    ensures short { IfOk result
+        (λ text. length text.bytes ≤ redraw_most emu.now.state.grid.rows emu.now.state.grid.cols) }
+{
+    near_is_drawn();
+    if redrawable(emu) {
+        return redraw(alloc, emu);
+    }
+    let shown = near(alloc, emu)?;
+    redraw(alloc, &shown)
+}
+
+/// The text of [`redraw_changes`] for the nearest screen that a text can draw. This project's own.
+pub fn redraw_changes_near(alloc: Global, old: &Grid, emu: &Emu) -> Result<Bytes, NoMemory>
+    requires { IsSameSize old.now emu.now.state.grid }
+    ensures text { IfOk result (λ text. text.bytes ≡ changes_of old.now (near emu.now.state)) }
+    ensures again { IfOk result
+        (λ text. (other : Screen) → IsWhole other → other.grid ≡ old.now
+        → Redraws (near emu.now.state) other text.bytes) }
+    ensures short { IfOk result
+        (λ text. length text.bytes ≤ redraw_most emu.now.state.grid.rows emu.now.state.grid.cols) }
+{
+    near_is_drawn();
+    if redrawable(emu) {
+        return redraw_changes(alloc, old, emu);
+    }
+    let shown = near(alloc, emu)?;
+    redraw_changes(alloc, old, &shown)
 }
 
 #[tactic(auto, unfolding(crate::specs::Redraw::redraw_of))]

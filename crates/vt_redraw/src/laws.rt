@@ -1,6 +1,8 @@
 //! Laws of redrawing, for every screen.
 ghost use Rattle.vt_redraw.specs.Behind.{TextsFollow};
 ghost use Rattle.vt_redraw.specs.DrawableRows.{RowsAreCharacters};
+ghost use Rattle.vt_redraw.specs.Lengths.{RedrawsAreShort};
+ghost use Rattle.vt_redraw.specs.Near.{DrawableStays, NearIsDrawn, NearRedraws, NothingIsLeftOut, RowsAreNear};
 ghost use Rattle.vt_redraw.specs.Parts.{RedrawsUseRows};
 ghost use Rattle.vt_redraw.specs.Reached.{StatesAreDrawable, TapeCellsAreDrawable, TapeStatesAreDrawable};
 ghost use Rattle.vt_redraw.specs.Redraw.{ChangesRedraw, ScreensRedraw};
@@ -43,6 +45,24 @@ pub fn cells_are_drawable()
 {
     tapes_keep_characters();
 }
+
+/// The nearest screen is drawable, and its text draws it. Its cells are those of the screen except the ones that are
+/// replaced, a drawable screen stays, and a screen of which nothing is left out is drawable.
+pub fn near_is_drawn()
+    ensures drawn { NearIsDrawn }
+    ensures redraws { NearRedraws }
+    ensures exact { DrawableStays }
+    ensures cells { RowsAreNear }
+    ensures parts { NothingIsLeftOut }
+{
+    screens_redraw();
+    columns_are_few();
+}
+
+/// How long the texts of redraws are at most.
+pub fn redraws_are_short()
+    ensures { RedrawsAreShort }
+{}
 
 /// A row is drawable exactly if it is the cells of characters that print themselves, each one of two columns with its
 /// right half.

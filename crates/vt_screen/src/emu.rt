@@ -5,6 +5,8 @@ ghost use Rattle.std.specs.Borrow.{Lends, sem};
 ghost use Rattle.vt_cells.specs.contracts.palette.Palette.{the_row as palette_row};
 ghost use Rattle.vt_screen.specs.contracts.emu.Emu.{the_row};
 ghost use Rattle.vt_screen.specs.Tape.{with_change};
+ghost use Rattle.vt_units.specs.Rest.{fresh, start_mode};
+ghost use Rattle.vt_units.specs.Run.{make_reached};
 ghost use Rattle.vt_canvas.specs.Change.{palette, resize, user_map};
 
 mod changes;
@@ -47,6 +49,17 @@ impl Emu {
     {
         Emu {
             canvas: Canvas::new(grid),
+            pending: Pending::new(),
+        }
+    }
+
+    /// The screen of these cells and this state. No text is pending.
+    pub fn of(grid: Grid, state: ScreenState) -> Emu
+        requires { IsWhole (record { grid = grid; state = state }) }
+        ensures { result ≡ make_reached (record { grid = grid; state = state }) (fresh start_mode) }
+    {
+        Emu {
+            canvas: Canvas::of(grid, state),
             pending: Pending::new(),
         }
     }

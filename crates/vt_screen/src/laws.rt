@@ -7,7 +7,6 @@ ghost use Rattle.vt_screen.specs.Tape.{AnyTapeCut, StretchesRun};
 
 use vt_cells::columns_are_few;
 use vt_chars::unfinished_begins;
-use vt_grid::laws::edits_keep_halves;
 use vt_units::texts_spell_characters;
 
 /// Running the parts of a text in order is running the whole text, however it is cut.
@@ -35,7 +34,7 @@ pub fn tapes_run()
 pub fn tapes_keep_halves()
     ensures { TapesKeepHalves }
 {
-    edits_keep_halves();
+    columns_are_few();
     texts_spell_characters();
 }
 

@@ -9,6 +9,8 @@ use Rattle.vt_check.specs.declared.verdict.Verdict.TheVariants as verdict
 use Rattle.vt_events.specs.declared.entry.Entry.{Entry}
 use Rattle.vt_explain.specs.Certificates.{IsCertificate}
 use Rattle.vt_explain.specs.declared.hop_why.HopWhy.{HopWhy}
+use Rattle.vt_free.specs.declared.free_verdict.FreeVerdict.{FreeVerdict}
+use Rattle.vt_free.specs.declared.free_verdict.FreeVerdict.TheVariants as free
 use Rattle.vt_world.specs.Laws.{moments}
 use Rattle.vt_world.specs.State.{WorldState}
 
@@ -18,11 +20,17 @@ pub record IsWatched (f : Form) (start : WorldState) (entries : List Entry) (tex
   pub good : IsCertificate (moments start entries) cert
   pub text_is : text ≡ watch_text f cert start entries
 
--- the verdict on the journal; and a property of the text, if the journal is legal
+-- the verdict on the journal
 abbrev pub verdict_of : Watched → Verdict
 verdict_of (watched.Text text) = verdict.Legal
 verdict_of (watched.Illegal index why) = verdict.Illegal index why
 
+-- the same of a free journal
+abbrev pub free_verdict_of : Watched → FreeVerdict
+free_verdict_of (watched.Text text) = free.Legal
+free_verdict_of (watched.Illegal index why) = free.Illegal index why
+
+-- a property of the text, if the journal is legal
 abbrev pub IfText : Watched → (List ℕ → Type 0) → Type 0
 IfText (watched.Text text) says = says text.bytes
 IfText (watched.Illegal index why) says = ⊤

@@ -66,7 +66,7 @@ impl Failure {
     // The exit status, and the words of the line before its numbers.
     fn told(self) -> (u8, &'static [u8]) {
         match self {
-            Failure::Usage => (1, b"watch: usage: watch [json]"),
+            Failure::Usage => (1, b"watch: usage: watch [free] [json]"),
             Failure::ReadFault => (2, b"watch: read failed"),
             Failure::WriteFault => (3, b"watch: write failed"),
             Failure::NoMemory => (4, b"watch: no memory"),

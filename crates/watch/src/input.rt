@@ -1,6 +1,7 @@
 //! The input: a session, and a journal after it or none.
 use crate::ending::Failure;
-use crate::form::Form;
+use crate::free::free_text;
+use crate::task::Task;
 use crate::watched::Watched;
 use crate::watcher::watch_text;
 use session_run::play;
@@ -10,18 +11,27 @@ use vt_base::{Bytes, NoMemory};
 use vt_journal::{JError, Journal, parse, print, version_of};
 
 /// The text for the input.
-pub(crate) fn text_for(alloc: Global, form: Form, input: &[u8]) -> Result<Bytes, Failure> {
+pub(crate) fn text_for(alloc: Global, task: Task, input: &[u8]) -> Result<Bytes, Failure> {
     let (text, after) = cut(input);
     let session = session_of(alloc, text)?;
-    let journal = if after.is_empty() {
-        played(alloc, &session)?
-    } else {
-        parsed(alloc, after)?
-    };
-    match watch_text(alloc, form, &session, &journal)? {
+    match watched(alloc, task, &session, after)? {
         Watched::Text(text) => Ok(text),
         Watched::Illegal { index, why } => Err(Failure::Illegal { index, why }),
     }
+}
+
+// The result for the session and the text after it.
+fn watched(alloc: Global, task: Task, session: &Session, after: &[u8]) -> Result<Watched, Failure> {
+    if task.is_free {
+        let journal = parsed(alloc, after)?;
+        return Ok(free_text(alloc, task.form, session, &journal)?);
+    }
+    let journal = if after.is_empty() {
+        played(alloc, session)?
+    } else {
+        parsed(alloc, after)?
+    };
+    Ok(watch_text(alloc, task.form, session, &journal)?)
 }
 
 // The input, cut before the first of its lines that is the first line of a journal.

@@ -44,8 +44,8 @@ pub(crate) fn watch_text(
     }
 }
 
-// The text of the entries from this machine on.
-fn history_text(
+/// The text of the entries from this machine on.
+pub(crate) fn history_text(
     alloc: Global,
     form: Form,
     cert: &[HopWhy],

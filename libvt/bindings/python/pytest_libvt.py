@@ -1,10 +1,16 @@
-"""The pytest plugin of libvt: programs on a terminal as a fixture.
+"""The pytest plugin of libvt: programs on a terminal, and on the consoles of a machine, as fixtures.
 
     def test_help(terminal):
         nano = terminal("nano -I", rows=25, cols=80)
         nano.type("<C-g>")
         nano.wait_for("Main nano help text")
         nano.assert_screen("screens/help.screen")
+
+    def test_switch(consoles):
+        machine = consoles([1, 2])
+        machine.run("sh", 2)
+        machine.type("<A-F2>")
+        machine.wait_front(2)
 
 The library is loaded with the first terminal. So if it is missing, the tests that use no terminal run nevertheless.
 """
@@ -14,15 +20,20 @@ import os
 import pathlib
 import re
 import shutil
-from typing import TYPE_CHECKING, Any, Callable, Generator, Iterator
+from typing import TYPE_CHECKING, Any, Callable, Generator, Iterator, TypeVar
 
 import pytest
 
 if TYPE_CHECKING:
+    from libvt.consoles import Consoles
     from libvt.terminal import Terminal
 
 ACCEPTED = "vt-accepted"
 STARTED: pytest.StashKey[list[Terminal]] = pytest.StashKey()
+MACHINES: pytest.StashKey[list[Consoles]] = pytest.StashKey()
+Hook = TypeVar("Hook", bound=Callable[..., Any])
+# The decorator of a hook that stands around the others; some versions of pytest have no types for it.
+around_others: Callable[[Hook], Hook] = pytest.hookimpl(hookwrapper=True)
 
 
 def pytest_addoption(parser: pytest.Parser) -> None:
@@ -71,17 +82,69 @@ def terminal(request: pytest.FixtureRequest, tmp_path: pathlib.Path) -> Iterator
             made.close()
 
 
+@pytest.fixture
+def consoles(request: pytest.FixtureRequest, tmp_path: pathlib.Path) -> Iterator[Callable[..., Consoles]]:
+    """Starts machines with consoles: consoles(numbers, rows, cols, ..), with the words of libvt.Consoles. Programs run
+    in tmp_path, which is also their HOME, with the environment of a user without settings, and end with the test. A
+    test is skipped if vtrun isn't installed, or can't run here."""
+    from libvt.consoles import Consoles
+    from libvt.environment import settings_of
+    from libvt.vtrun import Unavailable
+
+    started: list[Consoles] = []
+    request.node.stash[MACHINES] = started
+    limit = request.config.getoption("--vt-timeout")
+
+    def start(numbers: Any = (1,), rows: int = 25, cols: int = 80, **how: Any) -> Consoles:
+        how = {"cwd": tmp_path, **({"timeout": limit} if limit else {}), **how}
+        how["env"] = {**settings_of(tmp_path), **(how.get("env") or {})}
+        try:
+            made = Consoles(numbers, rows, cols, **how)
+        except Unavailable as fault:
+            pytest.skip(str(fault))
+        started.append(made)
+        return made
+
+    try:
+        yield start
+    finally:
+        for made in started:
+            made.close()
+
+
+def path_for(item: pytest.Item, kind: str, number: int, suffix: str) -> pathlib.Path:
+    """The path of a file about a failed test."""
+    folder = item.config.getoption("--vt-keep")
+    name = re.sub(r"[^A-Za-z0-9_.-]+", "-", item.name if folder else kind)
+    return pathlib.Path(folder or getattr(item, "funcargs")["tmp_path"]) / f"{name}-{number}{suffix}"
+
+
 def keep(item: pytest.Item, made: Terminal, number: int) -> list[str]:
     """Writes the picture and the recording of a terminal. Returns lines with their paths."""
     from libvt.casts import cast_of
     from libvt.screen_files import write_text
 
-    folder = item.config.getoption("--vt-keep")
-    name = re.sub(r"[^A-Za-z0-9_.-]+", "-", item.name if folder else "terminal")
-    path = pathlib.Path(folder or getattr(item, "funcargs")["tmp_path"]) / f"{name}-{number}.svg"
+    path = path_for(item, "terminal", number, ".svg")
     write_text(path, made.now().picture())
     write_text(path.with_suffix(".cast"), cast_of(made))
     return [f"    picture {path}", f"    recording {path.with_suffix('.cast')}"]
+
+
+def machine_section(item: pytest.Item, made: Consoles, number: int, has_screens: bool) -> str:
+    """The report of a machine: its screens, unless the failure has them already, and the paths of what was kept."""
+    from libvt.screen_files import write_text
+
+    lines: list[str] = []
+    try:
+        lines += [] if has_screens else [made.report()]
+        path = path_for(item, "consoles", number, ".journal")
+        write_text(path, made.journal)
+        lines.append(f"    journal {path}")
+        write_text(path.with_suffix(".svg"), made.now().picture())
+        lines.append(f"    picture {path.with_suffix('.svg')} of the console in front")
+    except Exception as fault:  # the failure of the test counts, not this one
+        lines.append(f"    no further report: {fault!r}")
+    return "\n".join(lines)
 
 
 def section_of(item: pytest.Item, made: Terminal, number: int, has_screen: bool) -> str:
@@ -96,19 +159,24 @@ def section_of(item: pytest.Item, made: Terminal, number: int, has_screen: bool)
     return "\n".join(lines)
 
 
-@pytest.hookimpl(hookwrapper=True)
+@around_others
 def pytest_runtest_makereport(item: pytest.Item, call: pytest.CallInfo[None]) -> Generator[None, Any, None]:
     """Adds the screens of a failed test to its report, and the names of accepted files."""
     outcome = yield
     report = outcome.get_result()
     if call.when != "call":
         return
-    for number, made in enumerate(item.stash.get(STARTED, []), 1):
+    started: list[Terminal] = item.stash.get(STARTED, [])
+    for number, made in enumerate(started, 1):
         report.user_properties += [(ACCEPTED, path) for path in made.accepted]
         if report.failed:
             message = str(call.excinfo.value) if call.excinfo else ""
             has_screen = "\n    cursor " in message and made.command in message
             report.sections.append((f"terminal {number}", section_of(item, made, number, has_screen)))
+    machines: list[Consoles] = item.stash.get(MACHINES, []) if report.failed else []
+    for number, machine in enumerate(machines, 1):
+        has_screens = bool(call.excinfo and "is in front," in str(call.excinfo.value))
+        report.sections.append((f"consoles {number}", machine_section(item, machine, number, has_screens)))
 
 
 def pytest_terminal_summary(terminalreporter: Any) -> None:

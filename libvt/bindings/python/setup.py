@@ -26,7 +26,8 @@ def library():
     for place in places:
         if place.is_file():
             return place
-    raise SystemExit(f"{NAME} isn't there: tools/build.py c or libvt/tools/build_c.sh makes it, and VT_LIBRARY may name it")
+    makers = "tools/build.py c or libvt/tools/build_c.sh makes it, and VT_LIBRARY may name it"
+    raise SystemExit(f"{NAME} isn't there: {makers}")
 
 
 def platform_tag():

@@ -8,6 +8,8 @@ from repository import TOP
 
 TESTS = TOP / "libvt/tests"
 EXAMPLES = TOP / "libvt/examples"
+# The sources of the example of a terminal.
+TERM = ["term.c", "console.c", "typed.c", "draw.c", "picture.c"]
 SECONDS = 300
 WARNINGS = ["-Wall", "-Wextra", "-Werror"]
 SANITIZERS = ["-fsanitize=address,undefined", "-fno-sanitize-recover=all", "-g"]

@@ -1,5 +1,5 @@
 """What programs of libvt.so.1 rely on: the calls, structs, numbers and macros of vt.h, a line each, in
-libvt/src/interface.txt.
+libvt/src/interface.txt; and the symbols of the Debian package, in debian/libvt1.symbols.
 
 A call has its parameters, without their names; a struct its size, and each member its place, as libvt/tests/layout.c
 prints them. Spare members aren't in the file: they may get names.
@@ -10,6 +10,8 @@ from .bench import TOP
 
 HEADER = TOP / "libvt/include/vt.h"
 STORED = TOP / "libvt/src/interface.txt"
+SYMBOLS = TOP / "debian/libvt1.symbols"
+VERSION = TOP / "man/vt.3"
 # Whether the file gets what the header has more.
 ADDS = False
 COMMENT = re.compile(r"/\*.*?\*/", re.S)
@@ -41,6 +43,21 @@ def lines_of_header():
 def present(layout):
     """Every line of the header as it is, with the sizes and places that layout.c printed."""
     return [*lines_of_header(), *(f"place {line}" for line in layout if ".spare " not in line)]
+
+
+def package_calls():
+    """The calls in the list of the package, each with the version that it came with."""
+    text = SYMBOLS.read_text(encoding="utf-8") if SYMBOLS.exists() else ""
+    return dict(re.findall(r"^ (vt_\w+)@VT_1 (\S+)$", text, re.M))
+
+
+def add_symbols(calls):
+    """Adds to the list of the package the calls that it lacks, as new in the version of vt(3)."""
+    version = re.search(r'^\.Os "vt ([\d.]+)"$', VERSION.read_text(encoding="utf-8"), re.M)[1]
+    listed = {**dict.fromkeys(calls, version), **package_calls()}
+    head = ["libvt.so.1 libvt1 #MINVER#", " VT_1@VT_1 1.0.0"]
+    lines = [*head, *(f" {name}@VT_1 {listed[name]}" for name in sorted(listed))]
+    SYMBOLS.write_text("".join(f"{line}\n" for line in lines), encoding="utf-8")
 
 
 def stored():

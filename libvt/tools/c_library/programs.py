@@ -4,7 +4,7 @@ import os
 import shutil
 import time
 
-from .bench import EXAMPLES, Missing
+from .bench import EXAMPLES, TERM, Missing
 
 ROWS, COLS = 25, 80
 LIMIT = 20
@@ -73,7 +73,7 @@ def shown(bench, command, keys, wanted=None):
 def check_programs(bench):
     """Each program that is there."""
     bench.needs("tmux")
-    term = bench.compiled("term", [EXAMPLES / name for name in ("term.c", "draw.c", "picture.c")])
+    term = bench.compiled("term", [EXAMPLES / name for name in TERM])
     if not term:
         return
     missing = [name for name in PROGRAMS if not shutil.which(name)]

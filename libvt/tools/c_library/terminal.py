@@ -10,7 +10,7 @@ import time
 
 from programs import Missing, find
 
-from .bench import EXAMPLES, SANITIZERS, TOP
+from .bench import EXAMPLES, SANITIZERS, TERM, TOP
 
 LIMIT = 20
 ROWS, COLS = 24, 80
@@ -132,6 +132,9 @@ def check_hands(bench, program):
     bench.holds(terminal.end() == 0, "the command that asked ends")
     keys = [(b"\x1bOP", "1b 5b 5b 41", 4), (b"\x1b[A", "1b 5b 41", 3), (b"a\x03", "61 03", 2)]
     keys += [(b"\x1b[21~", "1b 5b 32 31 7e", 5), (b"\x1b[H", "1b 5b 31 7e", 4)]
+    # (kcbt, kf13 and kf17 of terminfo; Right with Control is Right on a console; a console has no report of focus)
+    keys += [(b"\x1b[Z", "1b 09", 2), (b"\x1b[1;2P", "1b 5b 32 35 7e", 5), (b"\x1b[15;2~", "1b 5b 33 31 7e", 5)]
+    keys += [(b"\x1b[1;5C", "1b 5b 43", 3), (b"\x1b[I", "1b 5b 49", 3)]
     for typed, wanted, count in keys:
         terminal = Terminal([program, "sh", "-c", raw % count])
         if bench.holds(terminal.wait_for(b"ready"), "the command waits for a key"):
@@ -151,6 +154,55 @@ def check_hands(bench, program):
     terminal.type(b"\r")
     bench.holds(terminal.wait_for(b"30 90"), "a new size goes to the command")
     bench.holds(terminal.end() == 0, "the command that was resized ends")
+
+
+def shown_rows(vt, terminal):
+    """The rows of the outer terminal."""
+    with vt.Screen(ROWS, COLS) as screen:
+        screen.write(terminal.output)
+        return [row.rstrip() for row in screen.rows()]
+
+
+def check_consoles(bench, vt, program):
+    """Several consoles: each has its program and its screen, keys go to the one in front, and the last row shows them."""
+    terminal = Terminal([program, "--status", "sh", "-c", "echo fir''st; read x; echo $x got; read y; exit 5"])
+    bench.holds(terminal.wait_for(b"first"), "the command runs on console 1")
+    bench.holds(shown_rows(vt, terminal)[-1] == "[1]", f"the status shows one console: {shown_rows(vt, terminal)[-1]}")
+    terminal.type(b"\x1b[1;3Q")
+    terminal.type(b"stty size; echo sec''ond\r")
+    bench.holds(terminal.wait_for(b"second"), "Alt+F2 starts a shell on console 2")
+    bench.holds(b"23 80" in terminal.output, "the status has a row of its own")
+    rows = shown_rows(vt, terminal)
+    bench.holds(rows[-1] == " 1 [2]" and "first" not in rows, f"console 2 is in front: {rows}")
+    terminal.type(b"\x1b\x5b1;3Pword\r")
+    bench.holds(terminal.wait_for(b"word got"), "after Alt+F1 keys go to console 1")
+    rows = shown_rows(vt, terminal)
+    bench.holds(rows[0] == "first" and "second" not in rows, f"console 1 is drawn as it is: {rows}")
+    before = len(terminal.output)
+    terminal.type(b"\x1b[1;3C")
+    terminal.type(b"exit\r")
+    while terminal.read(1.0) and b"[1]" not in terminal.output[before:]:
+        pass
+    bench.holds(shown_rows(vt, terminal)[-1] == "[1]", "console 2 is closed with its shell")
+    terminal.type(b"\r")
+    bench.holds(terminal.end() == 5, f"the terminal ends with the status of the command: {terminal.status}")
+
+
+def check_asked_consoles(bench, vt, program):
+    """A text may ask for a console (ESC [ 12 ; N ]); the terminal ends with its last console."""
+    terminal = Terminal([program, "--status", "sh", "-c", "printf '\\033[12;3]'; exit 4"])
+    bench.holds(terminal.wait_for(b"[3]"), "the status shows the console")
+    terminal.type(b"echo thi''rd\r")
+    bench.holds(terminal.wait_for(b"third"), "a text brings console 3 to the front")
+    terminal.type(b"exit 9\r")
+    bench.holds(terminal.end() == 4, f"the status is that of the command: {terminal.status}")
+    terminal = Terminal([program, "sh", "-c", "echo ready; sleep 60"])
+    if bench.holds(terminal.wait_for(b"ready"), "the command runs"):
+        terminal.type(b"\x1b[1;3Q")
+        terminal.type(b"echo sec''ond\r")
+        terminal.wait_for(b"second")
+        os.kill(terminal.child, signal.SIGTERM)
+    bench.holds(terminal.end() == 128 + signal.SIGTERM, "a signal ends all consoles")
 
 
 def check_ends(bench, program):
@@ -184,9 +236,11 @@ def check_ends(bench, program):
 
 def check_terminal(bench, vt):
     """libvt/examples/term.c."""
-    program = bench.compiled("term.san", [EXAMPLES / name for name in ("term.c", "draw.c", "picture.c")], SANITIZERS)
+    program = bench.compiled("term.san", [EXAMPLES / name for name in TERM], SANITIZERS)
     if program:
         check_drawing(bench, vt, program)
         check_picture(bench, program)
         check_hands(bench, program)
+        check_consoles(bench, vt, program)
+        check_asked_consoles(bench, vt, program)
         check_ends(bench, program)

@@ -7,6 +7,7 @@ use Rattle.key_text.specs.Lines.{means, statement_from}
 use Rattle.key_text.specs.Reading.{Deeper, Got, make_got, lines_of, most_deep, read_row, read_rows, start, within}
 use Rattle.key_text.specs.Rows.{Row, after, backslash, begins_end, begins_lf, carriage_return, join_continuations, line_feed, next_line, place_of, with_places, put_at, row_of, rows, rows_of, with_item}
 use Rattle.key_text.specs.KeymapLine.{LineMeaning, KeymapLine}
+use Rattle.key_text.specs.Tally.{none_included}
 use Rattle.key_text.specs.View.{keymap_line}
 use Rattle.key_text.specs.Words.{bytes, place_of_word, word_at}
 use Rattle.key_text.specs.declared.fault.KeyFault.{KeyFault}
@@ -96,23 +97,23 @@ all_say_append (x ∷ xs) ys (u ∷ us) vs p q = (p.0, all_say_append xs ys us v
 -- lines that were read tell this
 pub record LinesTell (read : Result Got KeyFault) (meanings : List LineMeaning) : Type 0 where
   pub lines : List KeymapLine
-  pub is : read ≡ Ok (make_got lines 0)
+  pub is : read ≡ Ok (make_got lines (none_included None))
   pub tell : map (λ l. l.meaning) lines ≡ meanings
 
-read_row_says : (deeper : Deeper) (end : Place) (items : List Placed) (meaning : LineMeaning) (says : SaysAt end items meaning) → read_row deeper [] None 0 end items ≡ Ok (make_got (keymap_line meaning (place_of_word says.word).line (place_of_word says.word).column ∷ []) 0)
+read_row_says : (deeper : Deeper) (end : Place) (items : List Placed) (meaning : LineMeaning) (says : SaysAt end items meaning) → read_row deeper [] None (none_included None) end items ≡ Ok (make_got (keymap_line meaning (place_of_word says.word).line (place_of_word says.word).column ∷ []) (none_included None))
 unfolding read_row
 read_row_says deeper end items meaning says =
     cc (says.found, says.said)
 
-no_row : (deeper : Deeper) (at : Place) → read_rows deeper [] None 0 (rows at (join_continuations (with_places at []))) ≡ Ok (make_got [] 0)
+no_row : (deeper : Deeper) (at : Place) → read_rows deeper [] None (none_included None) (rows at (join_continuations (with_places at []))) ≡ Ok (make_got [] (none_included None))
 unfolding read_row word_at
 no_row deeper at = refl
 
-one_row : (deeper : Deeper) (end : Place) (items : List Placed) (left : List Row) (meaning : KeymapLine) (lines : List KeymapLine) → read_row deeper [] None 0 end items ≡ Ok (make_got (meaning ∷ []) 0) → read_rows deeper [] None 0 left ≡ Ok (make_got lines 0) → read_rows deeper [] None 0 (row_of items end ∷ left) ≡ Ok (make_got (meaning ∷ lines) 0)
+one_row : (deeper : Deeper) (end : Place) (items : List Placed) (left : List Row) (meaning : KeymapLine) (lines : List KeymapLine) → read_row deeper [] None (none_included None) end items ≡ Ok (make_got (meaning ∷ []) (none_included None)) → read_rows deeper [] None (none_included None) left ≡ Ok (make_got lines (none_included None)) → read_rows deeper [] None (none_included None) (row_of items end ∷ left) ≡ Ok (make_got (meaning ∷ lines) (none_included None))
 one_row deeper end items left meaning lines first more =
     search rules
 
-rows_read : (deeper : Deeper) (at : Place) (rs : List (List (List ℕ))) (meanings : List LineMeaning) → AllSay rs meanings → LinesTell (read_rows deeper [] None 0 (rows at (join_continuations (with_places at (flat_map row_text rs))))) meanings
+rows_read : (deeper : Deeper) (at : Place) (rs : List (List (List ℕ))) (meanings : List LineMeaning) → AllSay rs meanings → LinesTell (read_rows deeper [] None (none_included None) (rows at (join_continuations (with_places at (flat_map row_text rs))))) meanings
 rows_read deeper at [] [] said = record { lines = []; is = no_row deeper at; tell = refl }
 rows_read deeper at [] (meaning ∷ meanings) said = absurd said
 rows_read deeper at (ws ∷ rs) [] said = absurd said
@@ -126,8 +127,8 @@ rows_read deeper at (ws ∷ rs) (meaning ∷ meanings) said =
     record {
       lines = line ∷ more.lines;
       is =
-          ap (λ text. read_rows deeper [] None 0 (rows at (join_continuations (with_places at text)))) (append_assoc row (codes "\n") rest)
-          ∙ ap (read_rows deeper [] None 0) (row_first at row rest said.0.plain)
+          ap (λ text. read_rows deeper [] None (none_included None) (rows at (join_continuations (with_places at text)))) (append_assoc row (codes "\n") rest)
+          ∙ ap (read_rows deeper [] None (none_included None)) (row_first at row rest said.0.plain)
           ∙ one_row deeper (past at row) (spread at row) (rows next (join_continuations (with_places next rest))) line more.lines
           (read_row_says deeper (past at row) (spread at row) meaning says) more.is;
       tell = ap (λ ts. meaning ∷ ts) more.tell;

@@ -103,6 +103,15 @@ impl ScreenState {
         true
     }
 
+    /// A copy of the state.
+    pub fn copy(&self) -> ScreenState
+        ensures { result ≡ self.now }
+    {
+        let mut copy = ScreenState::start(1);
+        copy.copy_from(self);
+        copy
+    }
+
     /// Becomes the other state.
     pub(crate) fn copy_from(&mut self, other: &ScreenState)
         ensures { self.new ≡ other.now }

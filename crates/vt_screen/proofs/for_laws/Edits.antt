@@ -4,8 +4,7 @@ use Rattle.std.specs.Prelude.{All}
 use Rattle.vt_cells.specs.Width.{is_half}
 use Rattle.vt_cells.specs.declared.cell.Cell.{Cell}
 use Rattle.vt_grid.specs.Grid.{GridView, with_deleted, with_erased, filled_grid, with_inserted, resized_grid, scrolled_down, scrolled_up}
-use Rattle.vt_grid.specs.Halves.{IsPairedRow, with_cells_at, split_wide_between, split_wide_rows}
-use Rattle.vt_grid.specs.Laws.{EditsKeepHalves}
+use Rattle.vt_grid.specs.Halves.{with_cells_at, split_wide_between, split_wide_rows}
 
 abbrev pub Each : (List Cell → Type 0) → GridView → Type 0
 Each Row s = All Row s.cells
@@ -30,16 +29,3 @@ pub record Edits (Blank : Cell → Type 0) (Row : List Cell → Type 0) : Type 0
   pub filling : (rows cols : ℕ) (c : Cell) → Blank c → Each Row (filled_grid rows cols c)
   pub resizing : (s : GridView) (rows cols skip : ℕ) (c : Cell) → Each Row s → Blank c
       → Each Row (resized_grid (split_wide_rows cols s) (filled_grid rows cols c) skip)
-
--- no half stands in column 0 or right of a half
-pub paired_edits : EditsKeepHalves → Edits IsWholeCell IsPairedRow
-paired_edits law = record {
-  drawing = law.drawing;
-  inserting = λ s y x n c h whole. law.inserting s y x (s.cols - min n (s.cols - x)) n c h whole;
-  deleting = law.deleting;
-  erasing = law.erasing;
-  scrolling_up = law.scrolling_up;
-  scrolling_down = law.scrolling_down;
-  filling = law.filling;
-  resizing = law.resizing;
-}

@@ -1,9 +1,9 @@
 -- Left of each half stands a character of two columns: the edits of rows keep that.
-use Rattle.std.proofs.Common.{◌≡◌, ℕ, zero, suc, ◌==◌, Bool, true, false, List, [], ◌∷◌, ◌++◌, take, drop, replicate, refl, sym, ap, ◌∙◌, subst, cond}
+use Rattle.std.proofs.Common.{◌≡◌, ℕ, zero, suc, ◌==◌, ◌&&◌, Bool, true, false, List, [], ◌∷◌, ◌++◌, take, drop, replicate, refl, sym, ap, ◌∙◌, subst, cond}
 use Rattle.std.proofs.lemmas.Bool.{eqb-true, false≢true}
 use Rattle.vt_cells.specs.Width.{columns, half, is_half}
 use Rattle.vt_cells.specs.declared.cell.Cell.{Cell}
-use Rattle.vt_grid.specs.Halves.{split_pair, split_wide, space_in_colours}
+use Rattle.vt_grid.specs.Halves.{ArePaired, IsPairedRow, split_pair, split_wide, space_in_colours}
 use Rattle.vt_screen.proofs.for_laws.Edits.{Edits, IsWholeCell}
 use Rattle.vt_screen.proofs.for_laws.RowEdits.{KeepsRows, edits_of, half_in}
 use Rattle.vt_screen.specs.Halves.{FollowWide}
@@ -47,6 +47,21 @@ repeated after (suc n) c none = (none_here after c none, repeated (columns c.cod
 module _ (narrow : columns half ≡ 1) where
   after-half : (c : Cell) → is_half c ≡ true → (columns c.code == 2) ≡ false
   after-half c is = ap (λ code. columns code == 2) (eqb-true c.code half is) ∙ ap (λ n. n == 2) narrow
+
+  -- the cell after a half follows no wide character, so two halves never stand side by side
+  paired-after : (wide after : Bool) (cells : List Cell) → FollowWide wide cells → (after ≡ true → wide ≡ false)
+      → ArePaired after cells
+  paired-after wide after [] h one = tt
+  paired-after wide after (c ∷ cells) h one =
+      (clear after (is_half c) refl refl, paired-after (columns c.code == 2) (is_half c) cells h.1 (after-half c))
+    where
+      clear : (a b : Bool) → after ≡ a → is_half c ≡ b → (a && b) ≡ false
+      clear true true first second = absurd (false≢true (sym (one first) ∙ h.0 second))
+      clear true false first second = refl
+      clear false b first second = refl
+
+  pub paired-row : (row : List Cell) → FollowWide false row → IsPairedRow row
+  paired-row row h = paired-after false true row h (λ _. refl)
 
   pair-keeps : (after : Bool) (cells : List Cell) → FollowWide after cells → FollowWide after (split_pair cells)
   pair-keeps after [] h = tt

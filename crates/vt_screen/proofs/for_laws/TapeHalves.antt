@@ -1,19 +1,18 @@
 -- The property of rows that their edits keep, after every tape on a start screen; and the places of halves.
-use Rattle.std.proofs.Common.{◌&&◌, ◌∙◌, ap, ◌≡◌, ℕ, zero, suc, ◌+◌, ◌-◌, ◌<◌, ◌≤◌, ◌==◌, Bool, true, false, List, [], ◌∷◌, map, refl, sym, subst, cond, arith, nat_lt, ltb-true}
+use Rattle.std.proofs.Common.{◌∙◌, ◌≡◌, ℕ, zero, suc, ◌+◌, ◌-◌, ◌<◌, ◌≤◌, ◌==◌, Bool, true, false, List, [], ◌∷◌, map, refl, sym, subst, cond, arith, nat_lt, ltb-true}
 use Rattle.std.specs.Prelude.{All, slice_index}
 use Rattle.std.specs.List.{list_all, range_with_len}
 use Rattle.std.proofs.lemmas.Bool.{and_parts, false≢true}
 use Rattle.std.proofs.lemmas.Bool.Decides.{nat_tests}
-use Rattle.std.proofs.lemmas.List.Elements.{All-head, All-tail}
+use Rattle.std.proofs.lemmas.List.Elements.{All-head, All-tail, All-weaker}
 use Rattle.vt_cells.specs.Width.{columns, half}
 use Rattle.vt_cells.specs.declared.cell.Cell.{Cell}
 use Rattle.vt_chars.specs.CharMap.{char_of, font_place, graphic_of, graphics}
 use Rattle.vt_chars.specs.Utf8.{within}
 use Rattle.vt_grid.specs.Grid.{cells_of_codes}
-use Rattle.vt_grid.specs.Halves.{ArePaired, IsPairedRow}
-use Rattle.vt_grid.specs.Laws.{EditsKeepHalves}
-use Rattle.vt_screen.proofs.for_laws.Edits.{Each, Edits, IsWholeCell, paired_edits}
-use Rattle.vt_screen.proofs.for_laws.FollowWide.{wide-edits}
+use Rattle.vt_grid.specs.Halves.{IsPairedRow}
+use Rattle.vt_screen.proofs.for_laws.Edits.{Each, Edits, IsWholeCell}
+use Rattle.vt_screen.proofs.for_laws.FollowWide.{paired-row, wide-edits}
 use Rattle.vt_screen.proofs.for_laws.Halved.{Draws, HasHalves, HaveCodes, coloured, colours_reset, control_keeps, escape_keeps, printed_once, private_keeps, sequence_keeps}
 use Rattle.vt_canvas.specs.Effect.{control_sequence, effect, private_sequence}
 use Rattle.vt_screen.specs.Halves.{FollowWide, HalvesFollowWide, IsPlainTaped, TapesKeepHalves}
@@ -191,19 +190,6 @@ whole_tapes Row law draws draws_byte = record {
   words = words_kept;
 }
 
--- no half stands in column 0 or right of a half
-paired_draws : (w code : ℕ) → IsWhole code → Draws IsPairedRow IsWhole w code
-paired_draws w code is attr = by (w == 2)
-  where
-    by : (test : Bool) → ArePaired true (cells_of_codes (cond test (code ∷ half ∷ []) (code ∷ [])) attr)
-    by true = (is, (ap (λ (b : Bool). b && true) is, tt))
-    by false = (is, tt)
-
-pub tapes_keep_halves : EditsKeepHalves → TextsSpellCharacters → TapesKeepHalves
-tapes_keep_halves law spell rows cols tape plain =
-    tapes_keep IsWholeCell IsPairedRow IsWhole IsPlainTaped
-    (whole_tapes IsPairedRow (paired_edits law) (λ code. paired_draws (columns code) code) (paired_draws 1)) spell rows cols tape plain
-
 -- left of each half stands a character of two columns
 wide_draws : (code : ℕ) → IsWhole code → Draws (FollowWide false) IsWhole (columns code) code
 wide_draws code is attr = by (columns code == 2) refl
@@ -220,3 +206,8 @@ pub halves_follow_wide : columns half ≡ 1 → TextsSpellCharacters → HalvesF
 halves_follow_wide narrow spell rows cols tape plain =
     tapes_keep IsWholeCell (FollowWide false) IsWhole IsPlainTaped
     (whole_tapes (FollowWide false) (wide-edits narrow) wide_draws one_draws) spell rows cols tape plain
+
+-- so no half stands in column 0 or right of a half
+pub tapes_keep_halves : columns half ≡ 1 → TextsSpellCharacters → TapesKeepHalves
+tapes_keep_halves narrow spell rows cols tape plain =
+    All-weaker (FollowWide false) IsPairedRow (paired-row narrow) _ (halves_follow_wide narrow spell rows cols tape plain)

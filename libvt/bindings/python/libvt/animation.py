@@ -109,7 +109,8 @@ class Player:
 
 def frames_of(cast: Cast, rate: float, pause: float) -> list[Frame]:
     """The frames of a recording, from the moment 0 on."""
-    player, frames, clock, last = Player(cast), [], 0.0, 0.0
+    player, clock, last = Player(cast), 0.0, 0.0
+    frames: list[Frame] = []
     for group in bursts(cast.events, rate):
         if frames:
             clock += min(pause, group[0].seconds - last)

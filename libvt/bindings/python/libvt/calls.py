@@ -1,4 +1,4 @@
-"""The calls of the C library libvt.so.1: the screen machine and the keyboard of the Linux text console (vt(3)).
+"""The calls of the C library libvt.so.1: the screen and the keyboard of the Linux text console (vt(3)).
 
     import libvt
 
@@ -49,15 +49,23 @@ class OutOfRange(Error, ValueError):
 
 
 class NoMemory(Error, MemoryError):
-    """Memory ran out; the screen or the keyboard is as it was."""
+    """Memory ran out; the object is as it was."""
 
 
 class Closed(Error):
-    """The screen or the keyboard was closed."""
+    """The object was closed."""
 
 
 class NotDrawable(Error):
     """No text draws this screen."""
+
+
+class Full(Error):
+    """The journal of a machine has no room for the call, which wasn't made."""
+
+
+class InUse(Error):
+    """The process has something that its last program left, or it ended, or it started with other rights."""
 
 
 class KeymapFault(Error):
@@ -268,6 +276,40 @@ class _Pair(ctypes.Structure):
     _fields_ = [(name, ctypes.c_uint32) for name in ("accent", "base", "result")]
 
 
+class _Start(ctypes.Structure):
+    _fields_ = [
+        ("consoles", ctypes.c_uint64), ("bytes", ctypes.c_uint64), ("events", ctypes.c_uint32),
+        ("rows", ctypes.c_uint16), ("cols", ctypes.c_uint16), ("front", ctypes.c_uint8),
+        ("keyboards", ctypes.c_uint8), ("spare", ctypes.c_uint8 * 22)]
+
+
+class _Seat(ctypes.Structure):
+    _fields_ = [("home", ctypes.c_uint8), ("privileged", ctypes.c_uint8), ("spare", ctypes.c_uint8 * 6)]
+
+
+class _Reply(ctypes.Structure):
+    _fields_ = [
+        ("mask", ctypes.c_uint64), ("length", ctypes.c_uint32), ("number", ctypes.c_uint32),
+        ("words", ctypes.c_uint16 * 6), ("kind", ctypes.c_uint8), ("spare", ctypes.c_uint8 * 19)]
+
+
+class _Mark(ctypes.Structure):
+    _fields_ = [*((name, ctypes.c_uint8) for name in ("kind", "a", "b", "cause")), ("spare", ctypes.c_uint8 * 4)]
+
+
+class _Display(ctypes.Structure):
+    _fields_ = [
+        ("hops", ctypes.c_uint64), ("gone", ctypes.c_uint64), ("entries", ctypes.c_uint32),
+        *((name, ctypes.c_uint8) for name in ("front", "pending", "locked")), ("spare", ctypes.c_uint8 * 17)]
+
+
+class _Console(ctypes.Structure):
+    _fields_ = [
+        ("bells", ctypes.c_uint32), ("queued", ctypes.c_uint32),
+        *((name, ctypes.c_uint16) for name in ("rows", "cols", "y", "x")),
+        *((name, ctypes.c_uint8) for name in ("owner", "graphics", "visible")), ("spare", ctypes.c_uint8 * 13)]
+
+
 _to = ctypes.POINTER
 _bytes, _size, _number = ctypes.c_char_p, ctypes.c_size_t, ctypes.c_uint32
 _room, _byte = _to(ctypes.c_uint8), ctypes.c_uint8
@@ -279,6 +321,7 @@ _CALLS = {
     "vt_screen_state": (_to(_State),),
     "vt_screen_cell": (_number, _number, _to(_Cell)),
     "vt_screen_row": (_number, _to(_Cell), _size),
+    "vt_screen_cells": (_to(_Cell), _size),
     "vt_screen_row_text": (_number, _room, _size, _to(_size)),
     "vt_screen_mark": (),
     "vt_screen_changed": (_room, _size),
@@ -288,6 +331,9 @@ _CALLS = {
     "vt_screen_set_user": (_to(ctypes.c_uint16),),
     "vt_screen_redraw": (_room, _size, _to(_size)),
     "vt_screen_redraw_changes": (_room, _size, _to(_size)),
+    "vt_screen_redraw_near": (_room, _size, _to(_size)),
+    "vt_screen_redraw_changes_near": (_room, _size, _to(_size)),
+    "vt_screen_left_out": (_to(_number),),
     "vt_screen_picture": (_room, _size, _to(_size)),
     "vt_keys_new": (_bytes, _size, _to(_Text), _size, _to(_Fault)),
     "vt_keys_scan": (_byte, _to(_Modes), _to(_KeyState), _to(_Key)),
@@ -301,6 +347,19 @@ _CALLS = {
     "vt_keys_set_pairs": (_to(_Pair), _size),
     "vt_keys_string": (_number, _room, _size, _to(_size)),
     "vt_keys_set_string": (_number, _bytes, _size),
+    "vt_machine_new": (_to(_Start), _to(_Seat), _size, _bytes, _size, _to(_Fault)),
+    "vt_machine_admit": (_number, _to(_Seat)),
+    "vt_machine_call": (
+        _number, _bytes, _to(ctypes.c_uint16), _size, _bytes, _size, _to(_Reply), _room, _size),
+    "vt_machine_forget": (),
+    "vt_machine_marks": (_to(_Mark), _size, _to(_size)),
+    "vt_machine_wait": (_number, _to(_byte)),
+    "vt_machine_display": (_to(_Display),),
+    "vt_machine_console": (_number, _to(_Console)),
+    "vt_machine_row": (_number, _number, _to(_Cell), _size),
+    "vt_machine_redraw": (_number, _room, _size, _to(_size)),
+    "vt_machine_entry": (_number, _room, _size, _to(_size)),
+    "vt_machine_journal": (_room, _size, _to(_size)),
 }
 
 
@@ -319,16 +378,17 @@ def _load() -> ctypes.CDLL:
         for call, arguments in _CALLS.items():
             function = getattr(library, call)
             function.argtypes, function.restype = [_to(_Handle), *arguments], ctypes.c_uint8
-        for call in ("vt_screen_free", "vt_keys_free"):
+        for call in ("vt_screen_free", "vt_keys_free", "vt_machine_free"):
             function = getattr(library, call)
             function.argtypes, function.restype = [_to(_Handle)], None
+        library.vt_columns.argtypes, library.vt_columns.restype = [_number], ctypes.c_uint8
     except (OSError, AttributeError) as fault:
         raise LibraryError(f"{name}: {fault}; VT_LIBRARY may name the file libvt.so.1") from None
     return library
 
 
 _library = _load()
-_OK, _MADE, _RANGE, _NO_MEMORY, _NOTHING, _NO_ROOM, _FAULT, _NOT_DRAWABLE = range(8)
+_OK, _MADE, _RANGE, _NO_MEMORY, _NOTHING, _NO_ROOM, _FAULT, _NOT_DRAWABLE, _FULL = range(9)
 
 
 def _unsigned(value: int, what: str) -> int:
@@ -336,6 +396,12 @@ def _unsigned(value: int, what: str) -> int:
     if not 0 <= value < 1 << 32:
         raise OutOfRange(f"{what}: {value}")
     return value
+
+
+def columns(character: str) -> int:
+    """How many columns a character takes: 1 or 2, or 0 for one that joins the character before it."""
+    width: int = _library.vt_columns(ord(character))
+    return width
 
 
 _Self = TypeVar("_Self", bound="_Object")
@@ -365,6 +431,10 @@ class _Object:
             raise Closed(f"this {type(self).__name__} was closed")
         if code == _NOT_DRAWABLE:
             raise NotDrawable("no text draws this screen")
+        if code == _FULL:
+            raise Full("the journal has no room for the call")
+        if code == _MADE:
+            raise InUse("the process is in use")
         raise Error(f"vt_{self._kind}_{name}: code {code}")
 
     def _text(self, name: str, *arguments: Any, room: int, what: str = "a number is out of its range") -> bytes:
@@ -480,9 +550,7 @@ class Screen(_Object):
         cells, what = (_Cell * ROW)(), f"row {row}"
         with self._lock:
             self._call("row", _unsigned(row, what), cells, ROW, what=what)
-            given, step = bytes(cells)[:self.size[1] * CELL], CELL // 4
-        codes, attributes = memoryview(given).cast("I")[::step], given[ATTRIBUTE::CELL]
-        return [Cell("" if code >= HALF else chr(code), code, byte) for code, byte in zip(codes, attributes)]
+            return _cells(cells, self.size[1])
 
     def mark(self) -> None:
         """Remembers the cells as they are, for changed_rows."""
@@ -534,6 +602,20 @@ class Screen(_Object):
     def redraw_changes(self) -> bytes:
         """The same for a terminal that shows the cells that mark remembered: only rows that differ are in the text."""
         return self._text("redraw_changes", room=4096)
+
+    def redraw_near(self) -> bytes:
+        """The text of redraw for the nearest screen that a text draws: this one, except the parts of left_out."""
+        return self._text("redraw_near", room=4096)
+
+    def redraw_changes_near(self) -> bytes:
+        """The text of redraw_changes for that screen."""
+        return self._text("redraw_changes_near", room=4096)
+
+    def left_out(self) -> int:
+        """What no text makes of this screen, a sum of enum vt_left_out of vt.h: 0 if redraw draws it."""
+        parts = _number()
+        self._call("left_out", parts)
+        return parts.value
 
     def picture(self) -> str:
         """The screen as a picture in SVG."""
@@ -643,6 +725,13 @@ def _encoded(text: str | Bytes) -> bytes:
 
 def _parts(colour: _Colour) -> tuple[int, int, int]:
     return colour.red, colour.green, colour.blue
+
+
+def _cells(cells: Any, count: int) -> list[Cell]:
+    """So many cells of an array of _Cell."""
+    given, step = bytes(cells)[:count * CELL], CELL // 4
+    codes, attributes = memoryview(given).cast("I")[::step], given[ATTRIBUTE::CELL]
+    return [Cell("" if code >= HALF else chr(code), code, byte) for code, byte in zip(codes, attributes)]
 
 
 def _cell(cell: _Cell) -> Cell:

@@ -1,6 +1,7 @@
 """Judges the assertions of test files: what is wrong with each of them, in lines for a person."""
 from __future__ import annotations
 
+import itertools
 import re
 import unicodedata
 from typing import Callable, Iterator, NamedTuple
@@ -174,15 +175,28 @@ def code_and_character(code: int) -> str:
 
 def judge_attr(check: Check, it: Looked) -> Iterator[str]:
     """?attr: the first cell that has other colours."""
-    is_unknown = check.wanted is Unknown
-    byte = -1 if is_unknown else attribute_byte(check.wanted)
+    if check.wanted is Unknown:
+        yield "wanted   ?"
+        yield from (f"shown    {line}" for line in attr_lines(check, it.shown))
+        return
+    byte = attribute_byte(check.wanted)
     for row, column in places(check):
         cell = it.shown.cell(row, column)
         if cell.attribute != byte:
-            wanted = "?" if is_unknown else f"{check.wanted.words}, the attribute byte {byte:02X}"
+            wanted = f"{check.wanted.words}, the attribute byte {byte:02X}"
             yield from two(wanted, f"{cell.words}, the attribute byte {cell.attribute:02X}")
             yield from pointed(it.shown, row, column)
             return
+
+
+def attr_lines(check: Check, shown: Shown) -> list[str]:
+    """Assertions that hold of the cells of a ?attr: one for each run of cells with the same colours."""
+    lines: list[str] = []
+    for words, cells in itertools.groupby(places(check), lambda place: shown.cell(*place).words):
+        run = list(cells)
+        last = f"-{run[-1][1]}" if len(run) > 1 else ""
+        lines.append(f"?attr {run[0][0]},{run[0][1]}{last} = {words}")
+    return lines
 
 
 def judge_cursor(check: Check, it: Looked) -> Iterator[str]:
@@ -243,9 +257,6 @@ def accepted_value(check: Check, it: Looked) -> str | None:
         return quoted(text_of(check, shown))
     if check.kind == "cell":
         return code_name(shown.cell(*places(check)[0]).code)
-    if check.kind == "attr":
-        words = {shown.cell(*place).words for place in places(check)}
-        return words.pop() if len(words) == 1 else None
     if check.kind == "exit":
         return None if it.status is None else str(it.status)
     return {

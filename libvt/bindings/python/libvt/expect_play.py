@@ -6,7 +6,7 @@ import tempfile
 
 from .calls import Bell, NotDrawable, Report, Screen
 from .environment import settings_of
-from .expect_faults import Looked, accepted_value, faults_of
+from .expect_faults import Looked, accepted_value, attr_lines, faults_of
 from .expect_files import Check, File, Step
 from .expect_values import Unknown
 from .screen_files import saved, write_text
@@ -79,8 +79,8 @@ class Playing:
             looked = self._looked(check)
         faults = faults_of(check, looked)
         self.has_failed = self.has_failed or bool(faults)
-        if faults and self.accepts:
-            self._accept(check, looked)
+        if faults and self.accepts and not self._accept(check, looked):
+            faults.append("accept   leaves this line as it is")
         if check.kind == "output":
             (self._program.reports if self._program else self._reports).clear()
         return faults
@@ -122,21 +122,29 @@ class Playing:
         except NotDrawable:
             return bytes(given)
 
-    def _accept(self, check: Check, looked: Looked) -> None:
-        """Keeps what an assertion has to be, so that it holds."""
+    def _accept(self, check: Check, looked: Looked) -> bool:
+        """Keeps what an assertion has to be, so that it holds. Returns whether it was written; otherwise only a person
+        can write it."""
         if check.kind == "screen" and check.wanted is not None:
             write_text(check.wanted, saved(looked.shown))
-        elif check.kind == "screen":
-            if all(row.startswith("|") for _, row in check.rows):
-                rows = looked.shown.rows
-                last = max((row for row, line in enumerate(rows) if line), default=0)
-                self.changes[check.line] = "\n".join(["?screen", *(f"|{row}|" for row in rows[: last + 1])])
-                self.changes.update({line: "" for line, _ in check.rows})
-        else:
-            value = accepted_value(check, looked)
-            if value is not None:
-                text = check.text[: check.start] if check.start >= 0 else f"{check.text} ="
-                self.changes[check.line] = f"{text} {value}"
+            return True
+        if check.kind == "screen":
+            if not all(row.startswith("|") for _, row in check.rows):
+                return False
+            rows = looked.shown.rows
+            last = max((row for row, line in enumerate(rows) if line), default=0)
+            self.changes[check.line] = "\n".join(["?screen", *(f"|{row}|" for row in rows[: last + 1])])
+            self.changes.update({line: "" for line, _ in check.rows})
+            return True
+        if check.kind == "attr":
+            self.changes[check.line] = "\n".join(attr_lines(check, looked.shown))
+            return True
+        value = accepted_value(check, looked)
+        if value is None:
+            return False
+        text = check.text[: check.start] if check.start >= 0 else f"{check.text} ="
+        self.changes[check.line] = f"{text} {value}"
+        return True
 
 
 def is_unknown(check: Check) -> bool:

@@ -1,8 +1,8 @@
 """Texts of keys: characters stand for themselves, and names between < and > for keys.
 
 The names are Enter, Esc, Tab, Space, Backspace, Up, Down, Left, Right, Home, End, PageUp, PageDown, Insert, Delete and
-F1 to F20; <lt> is the character <. C- before a name or a character is Control, M- is Alt and S- is Shift: <C-x> <M-f>
-<S-Tab>. Capital and small letters of a name are the same.
+F1 to F20; <lt> is the character <. C- before a name or a character is Control, M- or A- is Alt and S- is Shift: <C-x>
+<M-f> <S-Tab>. Capital and small letters of a name are the same.
 
 A named key is typed on the library's keyboard, so that its bytes depend on the screen's modes as on a console. A
 character is sent in UTF-8.
@@ -45,7 +45,7 @@ keycode 111 = Remove
 """ + "".join(f"keycode {n if n < 69 else n + 18} = F{n - 58} F{n - 46} F{n - 34}\n" for n in range(59, 71))
 # A key between < and >; or a sequence that begins with Esc, or a character, which is sent as one piece.
 PIECE = re.compile(
-    r"<((?:[CMS]-)*)([A-Za-z][A-Za-z0-9]+|[^\s<>])>|(\x1b(?:\[\[?[0-9;]*[@-~]|O?[^<\x1b])|.)", re.I | re.S)
+    r"<((?:[ACMS]-)*)([A-Za-z][A-Za-z0-9]+|[^\s<>])>|(\x1b(?:\[\[?[0-9;]*[@-~]|O?[^<\x1b])|.)", re.I | re.S)
 
 
 def scans_of(modifiers: set[str], name: str) -> bytes:
@@ -76,7 +76,7 @@ def pieces_of(keys: str) -> list[tuple[bool, bytes]]:
         if match[3] is not None:
             pieces.append((False, match[3].encode()))
             continue
-        modifiers, name = set(match[1].upper().replace("-", "")), match[2]
+        modifiers, name = set(match[1].upper().replace("-", "").replace("A", "M")), match[2]
         if len(name) == 1:
             pieces.append((False, bytes_of(modifiers, name)))
         elif name.lower() == "lt":

@@ -128,7 +128,7 @@ def sleep(terminal: Terminal, length: float) -> None:
 
 def play(terminal: Terminal, path: str, steps: list[tuple[int, str, Any]], trace: bool) -> None:
     """Does the steps of a script."""
-    does = {
+    does: dict[str, Callable[[Any], object]] = {
         "type": terminal.type, "wait": terminal.wait_for, "resize": lambda it: terminal.resize(*it),
         "sleep": lambda it: sleep(terminal, it),
     }  # fmt: skip

@@ -22,9 +22,24 @@ IUTF8 = 0o40000
 LONGEST_DRAWING = 0.05
 # How long a program may take to end after the hangup, and how long killed processes may take, in seconds.
 GRACE, LONGEST_CLOSING = 0.5, 2.0
+# The signals that Python ignores; subprocess restores them.
+OF_PYTHON = (signal.SIGPIPE, signal.SIGXFSZ)
 # The shell is the first process of the session, so the terminal that it opens becomes the controlling one. Then it
 # becomes the command.
 START = ["/bin/sh", "-c", 'exec "$@" <>"$0" >&0 2>&1']
+
+
+def default_signals() -> Callable[[], None] | None:
+    """What a child does before it becomes a program, so that no signal is ignored: a shell without job control starts
+    background commands with SIGINT ignored, and nohup with SIGHUP. None if none of them is ignored."""
+    ignored = [number for number in signal.valid_signals() if signal.getsignal(number) == signal.SIG_IGN]
+    kept = [number for number in ignored if number not in OF_PYTHON]
+
+    def restore() -> None:
+        for number in kept:
+            signal.signal(number, signal.SIG_DFL)
+
+    return restore if kept else None
 
 
 def is_readable(descriptor: int, seconds: float) -> bool:
@@ -55,7 +70,7 @@ class Session:
             self.resize(rows, cols)
             self._process = subprocess.Popen(
                 [*START, os.ttyname(self._slave), *words], stdin=subprocess.DEVNULL, env={**env, MARK: mark}, cwd=cwd,
-                start_new_session=True)  # fmt: skip
+                start_new_session=True, preexec_fn=default_signals())  # fmt: skip
             self.watch = Watch(f"{MARK}={mark}", self._process.pid)
             self._ended = os.pidfd_open(self._process.pid)
         except BaseException:

@@ -133,6 +133,16 @@ class Screens(unittest.TestCase):
         screen.write(b"\x1b%@\x1b[3h\x01")
         with self.assertRaises(libvt.NotDrawable):
             screen.redraw()
+        self.assertEqual((screen.left_out(), other.left_out()), (1, 0))
+        other.write(screen.redraw_near())
+        self.assertEqual(other.rows()[1], screen.rows()[1].replace("?", "\ufffd"))
+        screen.mark()
+        screen.write(b"\x1b[3;1Hx")
+        other.write(screen.redraw_changes_near())
+        self.assertEqual(other.rows()[2], screen.rows()[2])
+
+    def test_columns(self):
+        self.assertEqual([libvt.columns(character) for character in ("a", "中", "\u0301")], [1, 2, 0])
 
     def test_closing(self):
         with libvt.Screen(2, 2) as screen:

@@ -127,6 +127,19 @@ class Expect(unittest.TestCase):
         ran = run("expect", "a.test", folder=self.folder)
         self.assertEqual(ran.returncode, 0, ran.stdout + ran.stderr)
 
+    def test_accept_cuts_spans_and_leaves_patterns(self):
+        text = "SIZE 2 9\nRUN sh -c 'printf \"ab\\033[1mcd\"; read x'\n"
+        text += "?attr 0,0-4 = ?\n?row 0 ~ \"nowhere\"\n?bells = 0\n"
+        status, out = self.expect(text, "--accept", "--limit", "2")
+        self.assertEqual((status, out.count("not ok "), out.count("accept   leaves this line")), (1, 2, 1), out)
+        runs = ["?attr 0,0-1 = white black", "?attr 0,2-3 = white black bold", "?attr 0,4 = white black"]
+        for run_of_cells in runs:
+            self.assertIn(f"#   shown    {run_of_cells}\n", out)
+        made = (self.folder / "a.test").read_text(encoding="utf-8")
+        self.assertEqual(made, text.replace("?attr 0,0-4 = ?", "\n".join(runs)))
+        status, out = self.expect(made, "--limit", "2")
+        self.assertEqual((status, out.count("\nok "), out.count("not ok ")), (1, 4, 1), out)
+
     def test_what_is_refused(self):
         path = self.folder / "a.test"
         for text, line, wanted in REFUSED:

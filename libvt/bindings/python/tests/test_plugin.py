@@ -1,6 +1,7 @@
 """Tests of the pytest plugin, by pytest."""
 import importlib.util
 
+import libvt
 import pytest
 
 TESTS = r"""
@@ -23,6 +24,13 @@ MISSING = """
         assert True
     def test_terminal(terminal):
         terminal("true")
+"""
+MACHINE = """
+    def test_front(consoles):
+        machine = consoles([1, 2], rows=2, cols=20)
+        machine.run(["sh", "-c", "echo up; read x"], 2)
+        machine.wait_text("up", 2)
+        assert machine.front == 2
 """
 PLUGIN = ["-p", "pytest_libvt"]
 HAS_XDIST = importlib.util.find_spec("xdist") is not None
@@ -58,3 +66,27 @@ def test_a_missing_library_fails_only_tests_of_terminals(pytester, monkeypatch):
     ran = pytester.runpytest_subprocess(*PLUGIN)
     ran.assert_outcomes(passed=1, errors=1)
     ran.stdout.fnmatch_lines(["*LibraryError: /nowhere/libvt.so.1*"])
+
+
+def test_consoles(pytester):
+    try:
+        libvt.Consoles().close()
+    except libvt.Unavailable as why:
+        pytest.skip(str(why))
+    pytester.makepyfile(MACHINE)
+    ran = pytester.runpytest_subprocess(*PLUGIN, "--vt-keep", "kept")
+    ran.assert_outcomes(failed=1)
+    ran.stdout.fnmatch_lines(["E*assert 1 == 2", "*consoles 1*", "console 1 is in front*", "*|up *", "*journal kept/*",
+                            "*picture kept/test_front-1.svg*"])  # fmt: skip
+    assert (pytester.path / "kept/test_front-1.journal").read_text("utf-8").startswith("%journal 2\n")
+
+
+def test_consoles_are_skipped_by_name(pytester, monkeypatch):
+    path = pytester.path / "vtrun"
+    path.write_text("#!/bin/sh\necho 'vtrun: no filter' >&2\nexit 126\n", "utf-8")
+    path.chmod(0o755)
+    monkeypatch.setenv("VTRUN", str(path))
+    pytester.makepyfile(MACHINE)
+    ran = pytester.runpytest_subprocess(*PLUGIN, "-rs")
+    ran.assert_outcomes(skipped=1)
+    ran.stdout.fnmatch_lines(["SKIPPED*vtrun: no filter"])

@@ -97,7 +97,8 @@ def test_mc_screen(terminal, tmp_path):
     (tmp_path / "empty").mkdir()
     mc = terminal("mc --nosubshell -c empty empty", rows=14, cols=60, timeout=20)
     mc.wait_for("8De~te")
-    masks = [r"\w ?\d+ \d\d:\d\d", r"[\d.]+[GMK] / [\d.]+[GMK] \(\d+%\)", r"Hint:.*", r"^[#$]"]
+    free_space = r"└─+ [\d.]+[KMGT] / [\d.]+[KMGT] \(\d+%\) ─┘"
+    masks = [r"\w +\d+ \d\d:\d\d", free_space, (11, 0, 1, 60), r"^[#$]"]
     mc.assert_screen("screens/mc.screen", mask=masks)
 
 

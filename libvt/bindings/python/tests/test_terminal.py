@@ -25,6 +25,19 @@ it = Terminal('sleep 300', 2, 20)
 print(it._session.watch.mark.decode().strip(chr(0)), flush=True)
 it.wait_for('x', 0.2) if sys.argv[1] == 'fails' else os._exit(0)
 """
+IGNORES = """
+import signal
+for number in (signal.SIGINT, signal.SIGQUIT, signal.SIGHUP):
+    signal.signal(number, signal.SIG_IGN)
+from libvt import Terminal
+with Terminal(["sleep", "300"], 2, 20) as it:
+    it.type("<C-c>")
+    print(it.wait_exit())
+with Terminal(["sh", "-c", "trap 'echo hung up' HUP; echo ready; read x"], 3, 20) as it:
+    it.wait_for("ready")
+    it.kill(signal.SIGHUP)
+    it.wait_for("hung up")
+"""
 
 
 def shell(script, rows=2, cols=20, **how):
@@ -53,10 +66,11 @@ class Waiting(unittest.TestCase):
 
     def test_a_failure_has_the_screen(self):
         with shell("printf 'Save modified bufer?'; read x", 3, 40) as it:
+            it.wait_for("bufer?")
             began = time.monotonic()
             wanted = '"Save modified buffer?" wasn\'t shown within 0.4 s; row 0 has "Save modified buf"'
             text = self.fails(wanted, it.wait_for, "Save modified buffer?", 0.4)
-            self.assertTrue(0.4 <= time.monotonic() - began < 1.5)
+            self.assertTrue(0.4 <= time.monotonic() - began < 5)
             self.assertIn("  0 |Save modified bufer?                    |", text)
             self.assertIn("cursor 0,20", text)
 
@@ -83,13 +97,19 @@ class Waiting(unittest.TestCase):
             self.fails("before the program ended with status 3", it.wait_for, "never", 20)
             self.assertEqual((it.wait_exit(), it.screen.rows[0]), (3, "gone"))
             self.fails("ended before it was given all input", it.type, "x")
-        self.assertLess(time.monotonic() - began, 3)
+        self.assertLess(time.monotonic() - began, 12)
 
     def test_signals_and_statuses(self):
         with Terminal(["sleep", "100"], 2, 20) as it:
             self.fails("didn't end within 0.2 s", it.wait_exit, 0.2)
             it.kill()
             self.assertEqual(it.wait_exit(2), -signal.SIGTERM)
+
+    def test_signals_are_not_ignored(self):
+        environment = {**os.environ, "PYTHONPATH": str(FOLDER), "PYTHONDONTWRITEBYTECODE": "1"}
+        words = [sys.executable, "-c", IGNORES]
+        ran = subprocess.run(words, env=environment, capture_output=True, text=True, timeout=60, check=False)
+        self.assertEqual((ran.returncode, ran.stdout), (0, f"{-signal.SIGINT}\n"), ran.stderr)
 
     def test_programs_that_never_rest(self):
         with Terminal([sys.executable, "-S", "-E", "-c", COUNTS], 2, 20, timeout=1) as it:
@@ -107,7 +127,7 @@ class Waiting(unittest.TestCase):
             self.fails("didn't come to rest", it.settle, 0.3)
             it.type("<C-c>")
             self.assertEqual(it.wait_exit(), -signal.SIGINT)
-        self.assertLess(time.monotonic() - began, 6)
+        self.assertLess(time.monotonic() - began, 15)
 
 
 class Console(unittest.TestCase):
@@ -168,7 +188,7 @@ class Ends(unittest.TestCase):
         began = time.monotonic()
         it.close()
         self.assertEqual(with_mark(mark), [])
-        self.assertLess(time.monotonic() - began, 3)
+        self.assertLess(time.monotonic() - began, 8)
         self.assertEqual(it.screen.rows[0], "ready")
         with self.assertRaises(ValueError):
             it.type("x")

@@ -14,7 +14,7 @@ decreases-include l = 3 * l.at.left
 
 abbrev pub invariant-read_text-rows : goal.invariant-read_text-rows
 invariant-read_text-rows l =
-    IsReading (within l.depth.left l.texts) l.texts l.depth.outer l.fn.count l.text l.initial.out.items l.out.items l.count l.at l.place
+    IsReading (within l.depth.left l.texts) l.texts l.depth.outer l.fn.tally l.text l.initial.out.items l.out.items l.tally l.at l.place
 
 abbrev pub decreases-read_text-rows : goal.decreases-read_text-rows
 decreases-read_text-rows l = length l.text - l.at

@@ -1,4 +1,5 @@
-use Rattle.std.proofs.Common.{List, ℕ, sym, subst}
+use Rattle.std.proofs.Common.{◌≤◌, List, ℕ, length, sym, subst}
+use Rattle.vt_redraw.specs.Lengths.{redraw_most}
 use Rattle.vt_redraw.specs.Redraw.{Redraws}
 use Rattle.vt_redraw.proofs.drawing.redraw.Goals as goal
 
@@ -7,3 +8,9 @@ returns-clause-again c =
     λ other whole size.
     subst (λ (text : List ℕ). Redraws c.args.emu.now.state other text) (sym c.in_ok-text.ensures)
     (c.screens_redraw.ensures.screens c.args.emu.now.state other c.stays_stored.ensures whole size c.requires)
+
+pub returns-clause-short : goal.returns-clause-short
+returns-clause-short c =
+    let s = c.args.emu.now.state in
+    subst (λ (text : List ℕ). length text ≤ redraw_most s.grid.rows s.grid.cols) (sym c.in_ok-text.ensures)
+    (c.redraws_are_short.ensures s c.stays_stored.ensures c.requires).0

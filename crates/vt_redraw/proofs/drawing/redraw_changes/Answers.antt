@@ -1,4 +1,5 @@
-use Rattle.std.proofs.Common.{List, ℕ, sym, subst, ap, ◌∙◌}
+use Rattle.std.proofs.Common.{◌≤◌, List, ℕ, length, sym, subst, ap, ◌∙◌}
+use Rattle.vt_redraw.specs.Lengths.{redraw_most}
 use Rattle.vt_grid.specs.Grid.{GridView}
 use Rattle.vt_redraw.specs.Redraw.{IsSameSize, Redraws, changes_of}
 use Rattle.vt_redraw.proofs.drawing.redraw_changes.Goals as goal
@@ -11,3 +12,9 @@ returns-clause-again c =
     subst (λ (text : List ℕ). Redraws c.args.emu.now.state other text)
     (ap (λ (g : GridView). changes_of g c.args.emu.now.state) same ∙ sym c.in_ok-text.ensures)
     (c.screens_redraw.ensures.changes c.args.emu.now.state other c.stays_stored.ensures whole size c.requires.redrawable)
+
+pub returns-clause-short : goal.returns-clause-short
+returns-clause-short c =
+    let s = c.args.emu.now.state in
+    subst (λ (text : List ℕ). length text ≤ redraw_most s.grid.rows s.grid.cols) (sym c.in_ok-text.ensures)
+    ((c.redraws_are_short.ensures s c.stays_stored.ensures c.requires.redrawable).1 c.args.old.now)

@@ -14,4 +14,4 @@ mod screen;
 
 pub use error::{Error, Fault};
 pub use keyboard::{Action, KeyEvent, KeyModes, KeyState, Keyboard, Mode, Pair};
-pub use screen::{Cell, Colour, Cursor, Event, Screen};
+pub use screen::{Cell, Colour, Cursor, Event, Screen, columns};

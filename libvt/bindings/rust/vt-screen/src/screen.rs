@@ -195,6 +195,25 @@ impl Screen {
         })
     }
 
+    /// The text of `redraw` for the nearest screen that a text draws: this one, except the parts of `left_out`.
+    pub fn redraw_near(&self) -> Result<Vec<u8>, Error> {
+        text_of(4096, |at, room, length| unsafe { vt_sys::vt_screen_redraw_near(&self.handle, at, room, length) })
+    }
+
+    /// The text of `redraw_changes` for that screen.
+    pub fn redraw_changes_near(&self) -> Result<Vec<u8>, Error> {
+        text_of(4096, |at, room, length| unsafe {
+            vt_sys::vt_screen_redraw_changes_near(&self.handle, at, room, length)
+        })
+    }
+
+    /// What no text makes of this screen, a sum of `enum vt_left_out` of `vt.h`: 0 if `redraw` draws it.
+    pub fn left_out(&self) -> u32 {
+        let mut parts = 0;
+        unsafe { vt_sys::vt_screen_left_out(&self.handle, &mut parts) };
+        parts
+    }
+
     /// The screen as a picture in SVG 1.1.
     pub fn picture(&self) -> Result<String, Error> {
         let text =
@@ -207,6 +226,11 @@ impl Drop for Screen {
     fn drop(&mut self) {
         unsafe { vt_sys::vt_screen_free(&mut self.handle) }
     }
+}
+
+/// How many columns a character takes: 1 or 2, or 0 for one that joins the character before it.
+pub fn columns(character: char) -> u8 {
+    unsafe { vt_sys::vt_columns(u32::from(character)) }
 }
 
 fn parts(colour: vt_sys::vt_colour) -> Colour {

@@ -108,6 +108,18 @@ fn redraw() {
     assert_eq!(s.cursor(), other.cursor());
     s.write(b"\x1b%@\x1b[3h\x01").expect("a text is drawn");
     assert_eq!(s.redraw(), Err(Error::NotDrawable));
+    assert_eq!((s.left_out(), other.left_out()), (1, 0));
+    other.write(&s.redraw_near().expect("a text")).expect("a text is drawn");
+    assert_eq!(other.row_text(1), s.row_text(1).map(|row| row.replace('?', "\u{FFFD}")));
+    s.mark().expect("memory");
+    s.write(b"\x1b[3;1Hx").expect("a text is drawn");
+    other.write(&s.redraw_changes_near().expect("a text")).expect("a text is drawn");
+    assert_eq!(other.row_text(2), s.row_text(2));
+}
+
+#[test]
+fn columns() {
+    assert_eq!(['a', '中', '\u{301}'].map(vt_screen::columns), [1, 2, 0]);
 }
 
 #[test]

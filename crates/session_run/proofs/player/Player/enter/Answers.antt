@@ -21,5 +21,5 @@ returns c = λ o t is going now at.
       took = c.took.ensures;
       stop = refl;
     } in
-    entered c.meant_laws.ensures.plain c.legal_grows.ensures.replay o t c.args.p c.args.event c.args.program.now
+    entered c.meant_laws.ensures.plain c.legal_grows.ensures.entered o t c.args.p c.args.event c.args.program.now
     c.args.self.now after enters is going now at

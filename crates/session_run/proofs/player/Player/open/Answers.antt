@@ -8,6 +8,9 @@ returns c = record {
   history = ap plain_history c.in_ok-log.ensures.entries;
   stop = refl;
   limits = c.in_ok-log.ensures.limits ∙ c.limits-limits.ensures.same;
-  replayed = c.in_ok-world.ensures;
+  left = record {
+    legal = c.legal_grows.ensures.nothing (setup_of c.args.s.now).start;
+    replayed = c.in_ok-world.ensures;
+  };
   standing = c.in_ok-standing.ensures (setup_of c.args.s.now).programs;
 }

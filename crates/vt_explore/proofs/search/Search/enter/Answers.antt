@@ -1,6 +1,9 @@
-use Rattle.std.proofs.Common.{◌≡◌, List, ℕ, [], ◌∷◌, ◌++◌, refl, sym, ap, ◌∙◌, subst}
+use Rattle.std.proofs.Common.{ℕ, [], ◌∷◌, ◌++◌, length, refl, sym, ap, ◌∙◌, subst}
 use Rattle.vt_explore.proofs.Nevers.{extends_same, like_itself}
-use Rattle.vt_explore.specs.Alike.{Extends, HasLike}
+use Rattle.vt_explore.proofs.Sorted.{sorted_push}
+use Rattle.vt_explore.specs.Alike.{HasLike}
+use Rattle.vt_explore.specs.Searches.{AreSorted}
+use Rattle.session_order.specs.Ends.{Setup}
 use Rattle.session_order.specs.Orders.{history_of}
 use Rattle.session_order.specs.Sessions.{setup_of}
 use Rattle.vt_explore.proofs.search.Search.enter.Goals as goal
@@ -8,15 +11,27 @@ use Rattle.vt_explore.proofs.search.Search.enter.Goals as goal
 pub returns-then-branch-clause-grows : goal.returns-then-branch-clause-grows
 returns-then-branch-clause-grows c = extends_same c.args.self.now
 
+pub returns-then-branch-clause-sorted : goal.returns-then-branch-clause-sorted
+returns-then-branch-clause-sorted c = c.requires.sorted
+
 pub returns-then-branch-clause-known : goal.returns-then-branch-clause-known
 returns-then-branch-clause-known c =
     c.in_ok-knows.ensures c.if-branch.true (history_of (setup_of c.args.s.now) c.args.order) c.requires.machine
+    c.requires.sorted
 
 pub returns-clause-grows : goal.returns-clause-grows
 returns-clause-grows c = record {
   more = c.args.order ∷ [];
   is = c.in_ok-push.ensures.items ∙ ap (λ known. known ++ c.args.order ∷ []) c.self.view_is;
 }
+
+pub returns-clause-sorted : goal.returns-clause-sorted
+returns-clause-sorted c =
+    let o : Setup = setup_of c.args.s.now in
+    let most : ℕ = length (history_of o c.args.order) in
+    subst (λ known. AreSorted o known most)
+    (sym (c.in_ok-push.ensures.items ∙ ap (λ known. known ++ c.args.order ∷ []) c.self.view_is))
+    (sorted_push o c.args.self.now c.args.order most refl c.requires.sorted)
 
 pub returns-clause-known : goal.returns-clause-known
 returns-clause-known c =

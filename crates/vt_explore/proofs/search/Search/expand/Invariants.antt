@@ -1,7 +1,8 @@
-use Rattle.std.proofs.Common.{ℕ, ◌<◌}
+use Rattle.std.proofs.Common.{ℕ, ◌+◌, ◌<◌, length, map}
 use Rattle.vt_explore.specs.Alike.{Extends}
+use Rattle.vt_explore.specs.Findings.{AddsFound, IsTried}
+use Rattle.vt_explore.specs.Searches.{AreSorted}
 use Rattle.session_order.specs.Orders.{history_of}
-use Rattle.vt_explore.specs.Searches.{IsOpened}
 use Rattle.session_order.specs.Sessions.{setup_of}
 use Rattle.vt_explore.proofs.search.Search.expand.Given as goal
 
@@ -9,7 +10,10 @@ use Rattle.vt_explore.proofs.search.Search.expand.Given as goal
 abbrev pub invariant-loop-n : goal.invariant-loop-n
 invariant-loop-n g l = record {
   grows : Extends l.fn.self l.self;
-  opened :
+  sorted : AreSorted (setup_of l.s) l.self (length (history_of (setup_of l.s) l.order) + 1);
+  found :
+      AddsFound (map g.Q.Question.wants l.questions) (setup_of l.s) l.order l.fn.findings l.findings;
+  tried :
       (p : ℕ) → p < l.n
-      → IsOpened (g.Q.Question.wants l.question) (setup_of l.s) l.self (history_of (setup_of l.s) l.order) p;
+      → IsTried (map g.Q.Question.wants l.questions) l.findings (setup_of l.s) l.self (history_of (setup_of l.s) l.order) p;
 }

@@ -8,7 +8,7 @@ use Rattle.vt_journal.specs.declared.full.Full.{Full}
 use Rattle.vt_hub.specs.Shared.{Enters, SharedView, Stops}
 use Rattle.vt_hub.specs.Views.{PassView}
 use Rattle.vt_hub.proofs.Carried.{length-carried_entries}
-use Rattle.vt_hub.proofs.Found.{Found, adds, count, counted_after, done, few_made, found_from, full, role_after, waits}
+use Rattle.vt_hub.proofs.Found.{Found, adds, count, counted_after, done, few_made, found_from, full, role_after, waits, wakes}
 use Rattle.vt_hub.proofs.hub.Hub.turn.Goals as goal
 
 pub call-look-requires-clause-number : goal.call-look-requires-clause-number
@@ -108,11 +108,16 @@ returns-in-Done g c =
     let enters : Enters number seq c.args.event.now s after c.in-Done.at c.in-Done.reply =
     c.in-Done.ensures.0 in
     let left : view c.leave.new.self.1.0 ≡ without_turn after.stop shown =
-    c.leave.ensures.1 ∙ ap (λ (x : SharedView). without_turn x.stop shown) c.publish.ensures.value in
-    done start most number seq before s held found after (view c.leave.new.self.1.0) c.args.event.now
-    c.in-Done.at c.in-Done.reply enters shown c.publish.ensures.view
-    c.publish.ensures.mine left hub c.args.p.now c.p.view_is (lock_named c.leave.new.self.1.0) home
-    c.sound-2.ensures
+    c.leave.ensures.1 ∙ ap (λ (x : SharedView). without_turn x.stop shown) c.publish.ensures.value in (
+      done start most number seq before s held found after (view c.leave.new.self.1.0) c.args.event.now
+          c.in-Done.at c.in-Done.reply enters shown c.publish.ensures.view
+          c.publish.ensures.mine left hub c.args.p.now c.p.view_is (lock_named c.leave.new.self.1.0) home
+          c.sound-2.ensures,
+      wakes start most number seq before s held found after (view c.leave.new.self.1.0) c.args.event.now
+          c.in-Done.at c.in-Done.reply enters shown c.publish.ensures.view
+          c.publish.ensures.mine left (lock_named c.leave.new.self.1.0) c.sound-2.ensures c.in-Done.ended.set.bits
+          c.wake-woken.result.bits c.in-Done.ensures.1 c.wake-woken.ensures,
+    )
 
 pub returns-in-Full : goal.returns-in-Full
 returns-in-Full g c =

@@ -1,0 +1,10 @@
+pub mod Admitted
+pub mod Calls
+pub mod Codes
+pub mod Keymaps
+pub mod Loans
+pub mod Places
+pub mod Redrawn
+pub mod Shown
+pub mod Started
+pub mod Text

@@ -1,0 +1,28 @@
+-- The results of a call that writes a text.
+use Rattle.std.specs.Prelude.{◌≡◌, ◌⊎◌, ℕ, ◌<◌, ◌≤◌, ◌++◌, List, length, drop}
+use Rattle.machine_c.specs.Codes.{NO_MEMORY, NO_ROOM, OK}
+
+-- OK: the text stands in the first places of the room, the other places stay unchanged, and its length is written
+pub record IsWhole (text old new : List ℕ) (count code : ℕ) : Type 0 where
+  pub fine : code ≡ OK
+  pub size : count ≡ length text
+  pub room : length text ≤ length old
+  pub places : new ≡ text ++ drop (length text) old
+
+-- no room: only its length is written
+pub record LacksRoom (text old new : List ℕ) (count code : ℕ) : Type 0 where
+  pub refused : code ≡ NO_ROOM
+  pub size : count ≡ length text
+  pub room : length old < length text
+  pub places : new ≡ old
+
+-- no memory: nothing is written
+pub record LacksMemory (old new : List ℕ) (old_count count code : ℕ) : Type 0 where
+  pub refused : code ≡ NO_MEMORY
+  pub size : count ≡ old_count
+  pub places : new ≡ old
+
+-- one of the three
+abbrev pub HandsOver : List ℕ → List ℕ → List ℕ → ℕ → ℕ → ℕ → Type 0
+HandsOver text old new old_count count code =
+    IsWhole text old new count code ⊎ (LacksRoom text old new count code ⊎ LacksMemory old new old_count count code)

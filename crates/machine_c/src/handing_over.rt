@@ -1,0 +1,19 @@
+//! Writes a text into room that C passes.
+ghost use Rattle.std.specs.Prelude.{◌≡◌, take};
+ghost use Rattle.machine_c.specs.Codes.{OK};
+ghost use Rattle.machine_c.specs.Text.{HandsOver};
+
+use crate::code;
+
+/// Writes the text's length, and the text, if there is room for it.
+pub(crate) fn hand_over(text: &[u8], room: &mut [u8], count: &mut usize) -> u8
+    ensures text { HandsOver text.now room.old room.new count.old count.new result }
+    ensures front { result ≡ OK → take count.new room.new ≡ text.now }
+{
+    *count = text.len();
+    if room.len() < text.len() {
+        return code::NO_ROOM;
+    }
+    room[..text.len()].copy_from_slice(text);
+    code::OK
+}

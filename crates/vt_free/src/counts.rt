@@ -1,0 +1,11 @@
+//! Counts of calls.
+ghost use Rattle.std.specs.Prelude.{◌≡◌, replicate};
+
+use vt_base::CALLERS;
+
+/// No caller has made a call.
+pub(crate) fn no_calls() -> [u32; CALLERS]
+    ensures { result ≡ replicate 68 0 }
+{
+    [0; CALLERS]
+}

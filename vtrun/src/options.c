@@ -1,0 +1,107 @@
+/* The words of vtrun's command line. */
+#include "vtrun.h"
+#include <stdarg.h>
+#include <stdlib.h>
+#include <string.h>
+#include <unistd.h>
+
+enum { MOST_SIDE = 255, ROWS = 25, COLS = 80, FIRST = 1 };
+
+struct options options = { .consoles = 1 << FIRST, .rows = ROWS, .cols = COLS, .has_namespaces = true };
+
+static const char usage[] =
+    "usage: vtrun [-j JOURNAL] [--keymap FILE] [--size R C] [--consoles LIST] [--user NAME]\n"
+    "             [--timeout S] [--on N] [--socket PATH] [--no-namespaces] -- COMMAND ..\n"
+    "       vtrun [--socket PATH] attach | type TEXT | scan HH .. | front | wait front N [S] |\n"
+    "             wait owner N [S] | wait text N TEXT [S] | snap [N] [--redraw | --svg] | run N -- COMMAND .. |\n"
+    "             processes | end\n";
+
+_Noreturn void stop(int code, const char *form, ...)
+{
+    va_list values;
+    va_start(values, form);
+    fputs("vtrun: ", stderr);
+    vfprintf(stderr, form, values);
+    fputc('\n', stderr);
+    va_end(values);
+    exit(code);
+}
+
+/* A whole number from a least to a greatest one, or a stop that names the word. */
+static unsigned number_of(const char *word, const char *what, unsigned least, unsigned most)
+{
+    char *end = "";
+    unsigned long n = word && word[0] >= '0' && word[0] <= '9' ? strtoul(word, &end, 10) : most + 1UL;
+    if (n > most || n < least || *end)
+        stop(2, "%s %s: a number from %u to %u was wanted", what, word ? word : "", least, most);
+    return (unsigned)n;
+}
+
+/* The consoles of a list such as 1,2,4-6. */
+static uint64_t consoles_of(const char *list)
+{
+    uint64_t found = 0;
+    char *copy = list ? strdup(list) : NULL, *rest = NULL;
+    for (char *part = copy ? strtok_r(copy, ",", &rest) : NULL; part; part = strtok_r(NULL, ",", &rest)) {
+        char *dash = strchr(part, '-');
+        if (dash)
+            *dash = '\0';
+        unsigned first = number_of(part, "--consoles", 1, CONSOLES - 1);
+        unsigned last = dash ? number_of(dash + 1, "--consoles", first, CONSOLES - 1) : first;
+        for (unsigned n = first; n <= last; n++)
+            found |= (uint64_t)1 << n;
+    }
+    free(copy);
+    if (!found)
+        stop(2, "--consoles: numbers from 1 to 63 were wanted, as 1,2,4-6");
+    return found;
+}
+
+/* Reads the option at words[at]. How many words it has. */
+static int read_option(char **words, int at)
+{
+    const char *name = words[at], *value = words[at + 1];
+    if (strcmp(name, "--no-namespaces") == 0) {
+        options.has_namespaces = false;
+        return 1;
+    }
+    if (!value || strcmp(value, "--") == 0)
+        stop(2, "%s: a word was wanted after it\n%s", name, usage);
+    if (strcmp(name, "-j") == 0)
+        options.journal = value;
+    else if (strcmp(name, "--keymap") == 0)
+        options.keymap = value;
+    else if (strcmp(name, "--user") == 0)
+        options.user = value;
+    else if (strcmp(name, "--socket") == 0)
+        options.socket = value;
+    else if (strcmp(name, "--consoles") == 0)
+        options.consoles = consoles_of(value);
+    else if (strcmp(name, "--timeout") == 0)
+        options.seconds = number_of(value, name, 1, 1000000);
+    else if (strcmp(name, "--on") == 0)
+        options.on = number_of(value, name, 1, CONSOLES - 1);
+    else if (strcmp(name, "--size") == 0) {
+        options.rows = number_of(value, name, 1, MOST_SIDE);
+        options.cols = number_of(words[at + 2], name, 1, MOST_SIDE);
+        return 3;
+    } else
+        stop(2, "%s: no such option\n%s", name, usage);
+    return 2;
+}
+
+/* Reads the options up to the command, which stands after `--`. */
+void read_options(int count, char **words)
+{
+    int at = 1;
+    if (count == 2 && strcmp(words[1], "--help") == 0) {
+        fputs(usage, stdout);
+        exit(0);
+    }
+    while (at < count && words[at][0] == '-' && strcmp(words[at], "--"))
+        at += read_option(words, at);
+    if (at < count && strcmp(words[at], "--") == 0)
+        options.command = words + at + 1;
+    if (!options.command || !options.command[0])
+        stop(2, "no command: it stands after --\n%s", usage);
+}

@@ -1,0 +1,75 @@
+"""Speaks the protocol of the control socket, and breaks it; prints the answers as JSON.
+
+The function `ask` is that of docs/reference/vtrun.md, which dev/checks/check_vtrun.py puts in place of the line ASK.
+"""
+import json
+import os
+import socket
+import time
+
+
+def connected():
+    """A new connection."""
+    one = socket.socket(socket.AF_UNIX)
+    one.connect(os.environ["VTRUN_SOCKET"])
+    return one
+
+
+ASK
+
+
+def asked(stream, line, body=b""):
+    """The answer to a request, or its refusal."""
+    try:
+        return ["ok", ask(stream, line, body).decode()]
+    except RuntimeError as refusal:
+        return ["no", str(refusal)]
+
+
+stream = connected().makefile("rwb")
+seen = {}
+LINES = (
+    "hello", "front", "consoles", "row 1 0", "row 1 25", "snap 7", "snap x", "bogus", "wait front 2 10",
+    "wait front 0 10", "journal", "wait program 1 5", "scan 1", "scan 1e9e",
+)  # fmt: skip
+for line in LINES:
+    seen[line] = asked(stream, line)
+seen["type"] = asked(stream, "type 6", b"<A-F2>")
+seen["type bad"] = asked(stream, "type 4", b"<A-x")
+seen["front after"] = asked(stream, "front")
+seen["wait text"] = asked(stream, "wait text 1 5 3", b"abc")
+words = b"sh\0-c\0echo abc; exit 5\0"
+seen["run"] = asked(stream, f"run 1 {len(words)}", words)
+seen["wait text 2"] = asked(stream, "wait text 1 5000 3", b"abc")
+seen["program"] = asked(stream, "wait program 1 5000")
+seen["run bad"] = asked(stream, "run 1 3", b"abc")
+seen["svg"] = asked(stream, "svg 1")[1][:4]
+seen["redraw"] = "abc" in asked(stream, "redraw 1")[1]
+many = [connected() for _ in range(70)]
+time.sleep(0.3)
+del many
+half = connected()
+half.sendall(b"type 100\nabc")
+deaf = connected()
+deaf.setblocking(False)
+try:
+    for _ in range(100000):
+        deaf.sendall(b"snap 1\n")
+except BlockingIOError:
+    pass
+long = connected()
+long.sendall(b"x" * 10000)
+big = connected()
+big.sendall(b"type 99999999\n")
+seen["big"] = big.recv(100).decode().split("\n")[0]
+time.sleep(0.3)
+stream = connected().makefile("rwb")
+seen["still"] = asked(stream, "front")
+screen = connected()
+screen.sendall(b"attach 25 80\n")
+time.sleep(0.3)
+drawn = screen.recv(65536)
+seen["attached"] = drawn.startswith(b"ok 0\n")
+screen.sendall(b"\x1b[1;3P")
+seen["attached switch"] = asked(stream, "wait front 1 2000")
+print(json.dumps(seen))
