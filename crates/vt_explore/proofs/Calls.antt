@@ -1,6 +1,6 @@
 -- A machine that makes a call.
 use Rattle.std.proofs.Common.{◌≡◌, ℕ, ◌<◌, ◌≤◌, Bool, true, false, ⊎_elim, arith, List, [], ◌∷◌, ◌++◌, length, Option, Some, None, option_map, refl, sym, ap, ◌∙◌, subst}
-use Rattle.std.proofs.lemmas.Bool.{cases_lt}
+use Rattle.std.proofs.lemmas.Bool.{cases_lt, or_parts}
 use Rattle.std.proofs.lemmas.Bool.Decides.{nat_tests}
 use Rattle.std.proofs.lemmas.Option.{none-some, same_Some}
 use Rattle.std.specs.Prelude.{◌||◌, nat_lt, if◌then◌else◌}
@@ -25,6 +25,7 @@ use Rattle.vt_events.specs.declared.reply.Reply.TheVariants as reply
 use Rattle.vt_world.specs.History.{ReplayGrows, replay}
 use Rattle.vt_world.specs.State.{WorldState}
 use Rattle.vt_world.specs.Step.{Outcome, step}
+use Rattle.vt_world.specs.TableLaws.{TablesStay, sets_tables}
 
 reply_twice : (r : Reply) → plain_reply (plain_reply r) ≡ plain_reply r
 reply_twice (reply.Text b) = refl
@@ -74,11 +75,22 @@ pub record Took (p : ℕ) (program : Program) (r : Reply) (before after : Positi
       → plain_reply entry.reply ≡ plain_reply r
       → AreAfter programs (h ++ entry ∷ []) after.standing
 
-pub made : NextIsPlain → ReplayGrows → (o : Setup) (h : List Entry) (p : ℕ) (e : Event) (program : Program) (before after : Position) (r : Reply)
+-- the tables stay, unless the call sets them
+made_tables : TablesStay → (o : Setup) (p : ℕ) (e : Event) (before after : Position)
+    → after.world ≡ (step before.world p e).world → after.tables_set ≡ (before.tables_set || sets_tables e)
+    → (before.tables_set ≡ false → before.world.board.tables ≡ o.start.board.tables)
+    → after.tables_set ≡ false → after.world.board.tables ≡ o.start.board.tables
+made_tables stay o p e before after world set tables unset =
+    let parts : (before.tables_set ≡ false) × (sets_tables e ≡ false) =
+    or_parts before.tables_set (sets_tables e) (sym set ∙ unset) in
+    ap (λ (w : WorldState). w.board.tables) world ∙ stay before.world p e parts.1 ∙ tables parts.0
+
+pub made : NextIsPlain → ReplayGrows → TablesStay → (o : Setup) (h : List Entry) (p : ℕ) (e : Event) (program : Program) (before after : Position) (r : Reply)
     → program_of o.programs p ≡ Some program → length h ≤ 1_000_000 → call_now o h p ≡ Some e
     → IsAfter o h before → step before.world p e ≡ record { world = after.world; reply = plain_reply r }
+    → after.tables_set ≡ (before.tables_set || sets_tables e)
     → Took p program r before after → HasMade o h p e r after
-made is_plain grows o h p e program before after r is few now at stepped took =
+made is_plain grows stay o h p e program before after r is few now at stepped set took =
     let w : WorldState = replay o.start h in
     let follows : next_by o.programs p h ≡ Some e =
     next_now (is_waiting w p) (next_by o.programs p h) e now in
@@ -96,6 +108,8 @@ made is_plain grows o h p e program before after r is few now at stepped took =
         standing =
             took.took o.programs h new is at.standing few refl (follows ∙ ap Some (sym plain))
             (sym (ap plain_reply answer) ∙ reply_twice r);
+        tables =
+            made_tables stay o p e before after (sym (ap (λ (x : Outcome). x.world) stepped)) set at.tables;
       };
     }
 

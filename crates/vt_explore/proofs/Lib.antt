@@ -1,10 +1,12 @@
 mod Calls
 mod Finding
+mod Holding
 mod Journals
 mod Likes
 mod Names
 mod Nevers
 mod Opening
+mod Plays
 mod Positions
 mod Rows
 mod Sorted

@@ -1,9 +1,10 @@
 -- Questions about the calls of a session, and their answers over all its histories. This project's own.
-use Rattle.std.specs.Prelude.{◌≡◌, ◌≤◌, ⊤, ℕ, Bool, true, List, [], ◌∷◌, ◌++◌, length, take, Option, Some, None, slice_get}
+use Rattle.std.specs.Prelude.{◌≡◌, ◌≤◌, ⊤, ◌⊎◌, ℕ, Bool, true, false, List, [], ◌∷◌, ◌++◌, length, take, Option, Some, None, is_some, slice_get}
 use Rattle.vt_explore.specs.declared.outcome.End.{End}
 use Rattle.vt_explore.specs.declared.outcome.End.TheVariants as stop
 use Rattle.session_order.specs.Follows.{Follows}
 use Rattle.session_order.specs.Orders.{history_of}
+use Rattle.session_order.specs.Serial.{IsSerial, Played}
 use Rattle.session_order.specs.Sessions.{IsRightHistory, setup_of, start_of}
 use Rattle.session_text.specs.Sessions.{SessionView}
 use Rattle.vt_events.specs.Plain.{plain_event, plain_reply}
@@ -82,3 +83,19 @@ NeverInJournals =
     (wants : Wants) (s : SessionView) (console : WorldState) (history : List Entry) (end : Tail) (k : ℕ)
     (entry : Entry) → IsNever wants s → IsRightHistory s console history end → slice_get history k ≡ Some entry
     → IsAsked wants (start_of s) (take k history) entry → ⊥
+
+-- a history begins with another one
+pub record BeginsWith (history first : List Entry) : Type 0 where
+  pub rest : List Entry
+  pub is : history ≡ first ++ rest
+
+-- the play begins with this history, or it stopped before, since its journal is full
+pub record IsPlayOf (history : List Entry) (t : Played) : Type 0 where
+  pub whole : is_some t.stop ≡ false → BeginsWith t.history history
+  pub cut : is_some t.stop ≡ true → BeginsWith t.history history ⊎ BeginsWith history t.history
+
+-- so it is with each play of the turns of an order, and that order's history
+abbrev pub OrdersArePlayed : Type 0
+OrdersArePlayed =
+    (s : SessionView) (order : List ℕ) (t : Played) → IsSerial (setup_of s) order t
+    → IsPlayOf (history_of (setup_of s) order) t

@@ -1,13 +1,12 @@
 ghost use Rattle.std.specs.Prelude.{◌≡◌, ◌<◌, ℕ, List, [], ◌∷◌, Some, None, IfOk, OnOk, true, length, map, slice_get};
 ghost use Rattle.session_order.specs.Sessions.{setup_of};
 ghost use Rattle.vt_explore.specs.Findings.{AreFirst, AreFoundFor, AreNone, is_found};
-ghost use Rattle.vt_explore.specs.Positions.{IsAfter};
+ghost use Rattle.vt_explore.specs.Held.{IsPool};
 ghost use Rattle.vt_explore.specs.Questions.{AreFound, AreNever, IfAnswered, IfLimit, IfWhole};
 
 use crate::findings::Findings;
-use crate::position::Position;
+use crate::pool::Pool;
 use crate::search::Search;
-use crate::spares::Spares;
 use crate::tried::Tried;
 use crate::{End, Outcome, Progress, Question};
 use session_order::{meant_laws, order_laws, session_laws};
@@ -32,6 +31,7 @@ pub fn explore<Q: Question, P: Progress>(
     ensures never { IfOk result (λ outcome.
         IfWhole outcome.end (AreNever (map Q.wants questions.now) s.now outcome.found)) }
     ensures limit { IfOk result (λ outcome. IfLimit outcome.end (limit < outcome.states)) }
+    ensures whole { IfOk result (λ outcome. whole ≡ true → IfAnswered outcome.end ⊥) }
     ensures answered { IfOk result (λ outcome.
         IfAnswered outcome.end ((i : ℕ) → slice_get outcome.found i ≡ Some None → ⊥)) }
 {
@@ -39,9 +39,9 @@ pub fn explore<Q: Question, P: Progress>(
     order_laws();
     meant_laws();
     legal_grows();
-    let start = Position::start(alloc, s)?;
+    let mut pool = Pool::start(alloc, s)?;
     let mut findings = Findings::none(alloc);
-    let mut search = Search::start(alloc, &start)?;
+    let mut search = Search::start(alloc, &pool)?;
     let end = go_through(
         alloc,
         s,
@@ -49,7 +49,7 @@ pub fn explore<Q: Question, P: Progress>(
         limit,
         whole,
         progress,
-        &start,
+        &mut pool,
         &mut search,
         &mut findings,
     )?;
@@ -70,26 +70,28 @@ fn go_through<Q: Question, P: Progress>(
     limit: usize,
     whole: bool,
     progress: &mut P,
-    start: &Position,
+    pool: &mut Pool,
     search: &mut Search,
     findings: &mut Findings,
 ) -> Result<End, NoMemory>
-    requires start { IsAfter (setup_of s.now) [] start.now }
+    requires pool { IsPool (setup_of s.now) pool.old }
     requires search { search.now ≡ [] ∷ [] }
     requires findings { findings.now ≡ [] }
     ensures first { OnOk result (AreFirst (map Q.wants questions.now) (setup_of s.now) findings.new) }
     ensures none { IfOk result (λ end.
         IfWhole end (AreNone (map Q.wants questions.now) (setup_of s.now) findings.new)) }
     ensures limit { IfOk result (λ end. IfLimit end (limit < length search.new)) }
+    ensures whole { IfOk result (λ end. whole ≡ true → IfAnswered end ⊥) }
     ensures answered { IfOk result (λ end.
         IfAnswered end ((i : ℕ) → i < length questions.now → is_found findings.new i ≡ true)) }
 {
-    let mut spares = Spares::new(alloc);
     for next in 0..limit {
-        let Some(order) = search.copy_at(alloc, next)? else {
+        let Some(order) = search.at(next) else {
             return Ok(End::Whole);
         };
-        let tried = search.expand(alloc, s, questions, start, &mut spares, findings, &order)?;
+        let base = pool.after(alloc, s, next, order, true)?;
+        let tried = search.expand(alloc, s, questions, pool, findings, &base)?;
+        pool.give(s, base)?;
         match tried {
             Tried::Full => return Ok(End::Long),
             Tried::Known => {}

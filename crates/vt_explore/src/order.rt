@@ -1,4 +1,5 @@
-ghost use Rattle.std.specs.Prelude.{◌≡◌, ◌<◌, ◌≤◌, [], ◌∷◌, ◌++◌, length, IfOk};
+ghost use Rattle.vt_explore.specs.Held.{Begins};
+ghost use Rattle.std.specs.Prelude.{◌≡◌, ◌<◌, ◌≤◌, [], ◌∷◌, ◌++◌, length, IfOk, IsTrue, OnOk};
 
 use std::alloc::Global;
 use std::marker::Model;
@@ -41,14 +42,47 @@ impl Order {
         Ok(Order { callers })
     }
 
-    /// A copy with one more turn.
-    pub(crate) fn with(&self, alloc: Global, caller: u8) -> Result<Order, NoMemory>
-        requires { length self.now < 1_000_000 }
-        ensures { IfOk result (λ order. order ≡ self.now ++ caller ∷ []) }
+    /// One more turn.
+    pub(crate) fn push(&mut self, caller: u8) -> Result<(), NoMemory>
+        requires { length self.old < 1_000_000 }
+        ensures { OnOk result (self.new ≡ self.old ++ caller ∷ []) }
     {
-        let mut callers = Vec::from_slice(alloc, self.callers.as_slice())?;
-        callers.push(caller)?;
-        Ok(Order { callers })
+        self.callers.push(caller)?;
+        Ok(())
+    }
+
+    /// Becomes the other order.
+    pub(crate) fn copy_from(&mut self, other: &Order) -> Result<(), NoMemory>
+        ensures { OnOk result (self.new ≡ other.now) }
+    {
+        self.callers.clear();
+        self.callers.extend_from_slice(other.as_slice())?;
+        Ok(())
+    }
+
+    /// Whether both are the same.
+    pub(crate) fn same(&self, other: &Order) -> bool
+        ensures { IsTrue result → self.now ≡ other.now }
+    {
+        is_same(self.as_slice(), other.as_slice())
+    }
+
+    /// Whether this order begins with the other.
+    pub(crate) fn begins_with(&self, other: &Order) -> bool
+        ensures { IsTrue result → Begins self.now other.now }
+    {
+        let len = other.as_slice().len();
+        if self.as_slice().len() < len {
+            return false;
+        }
+        is_same(&self.as_slice()[..len], other.as_slice())
+    }
+
+    /// The number of turns.
+    pub(crate) fn len(&self) -> usize
+        ensures { result ≡ length self.now }
+    {
+        self.callers.len()
     }
 
     /// The callers.
@@ -58,4 +92,11 @@ impl Order {
     {
         self.callers.as_slice()
     }
+}
+
+// Whether both have the same turns.
+fn is_same(turns: &[u8], others: &[u8]) -> bool
+    ensures { IsTrue result → turns.now ≡ others.now }
+{
+    turns == others
 }

@@ -1,25 +1,28 @@
-ghost use Rattle.std.specs.Prelude.{◌≡◌, ◌≤◌, ◌+◌, ◌<◌, List, [], Option, Some, length, IfOk, IsTrue, OnOk};
-ghost use Rattle.vt_explore.specs.Positions.{AreSame, HasMade, IsAfter};
-ghost use Rattle.session_order.specs.Orders.{after_turn, history_of};
+ghost use Rattle.std.specs.Prelude.{◌≡◌, ◌≤◌, ◌+◌, ◌<◌, ◌||◌, List, [], Option, Some, length, IfOk, IsTrue, OnOk};
+ghost use Rattle.vt_explore.specs.Positions.{AreSame, HasMade, HaveSameTables, IsAfter};
+ghost use Rattle.session_order.specs.Orders.{after_turn};
 ghost use Rattle.session_order.specs.Ends.{Setup};
 ghost use Rattle.session_order.specs.Serial.{call_now};
 ghost use Rattle.session_order.specs.Sessions.{setup_of};
 ghost use Rattle.session_text.specs.Programs.{program_of};
 ghost use Rattle.vt_events.specs.declared.entry.Entry.{Entry};
 ghost use Rattle.vt_events.specs.declared.event.Event.{Event};
+ghost use Rattle.vt_world.specs.TableLaws.{sets_tables};
 
 use session_order::{SessionProgress, meant_laws, session_laws, start_of};
 use session_text::{Program, Session, program_of};
 use std::alloc::Global;
 use vt_base::{CallerNo, NoMemory};
 use vt_events::{Event, Reply};
-use vt_world::{World, legal_grows};
+use vt_world::{World, legal_grows, tables_stay};
 
 /// A machine, and how far each caller of its session is.
 #[derive(Drop)]
 pub(crate) struct Position {
     pub world: World,
     pub standing: SessionProgress,
+    /// Whether a call set the key tables since the start.
+    pub tables_set: bool,
 }
 
 impl Position {
@@ -30,44 +33,29 @@ impl Position {
         session_laws(s);
         let world = start_of(alloc, s)?;
         let standing = SessionProgress::start(alloc)?;
-        Ok(Position { world, standing })
-    }
-
-    /// A copy of the other machine, in the memory of this one.
-    pub(crate) fn into_copy(self, alloc: Global, other: &Position) -> Result<Position, NoMemory>
-        ensures { IfOk result (λ machine. machine ≡ other.now) }
-    {
-        let Position { world, standing } = self;
-        let mut standing = standing;
-        standing.copy_from(&other.standing);
         Ok(Position {
-            world: world.into_copy(alloc, &other.world)?,
+            world,
             standing,
+            tables_set: false,
         })
     }
 
-    /// The machine after the turns of an order, in the memory of this one. `start` is a machine before the
-    /// first call.
-    pub(crate) fn after(
-        self,
-        alloc: Global,
-        s: &Session,
-        start: &Position,
-        order: &[u8],
-    ) -> Result<Position, NoMemory>
-        requires start { IsAfter (setup_of s.now) [] start.now }
-        requires few { length order.now ≤ 1_000_000 }
-        ensures { IfOk result (IsAfter (setup_of s.now) (history_of (setup_of s.now) order.now)) }
+    /// Becomes the other, if both have the same tables unless a call set them.
+    pub(crate) fn copy_from(&mut self, alloc: Global, other: &Position) -> Result<(), NoMemory>
+        ensures { OnOk result (HaveSameTables self.old other.now → self.new ≡ other.now) }
     {
-        let mut machine = self.into_copy(alloc, start)?;
-        for n in order {
-            machine.turn_of(alloc, s, *n)?;
+        if self.tables_set || other.tables_set {
+            self.world.copy_from(alloc, &other.world)?;
+        } else {
+            self.world.copy_beside_tables(alloc, &other.world)?;
         }
-        Ok(machine)
+        self.standing.copy_from(&other.standing);
+        self.tables_set = other.tables_set;
+        Ok(())
     }
 
-    // A turn of the caller of this number.
-    fn turn_of(&mut self, alloc: Global, s: &Session, n: u8) -> Result<(), NoMemory>
+    /// A turn of the caller of this number.
+    pub(crate) fn turn_of(&mut self, alloc: Global, s: &Session, n: u8) -> Result<(), NoMemory>
         ensures { OnOk result ((h : List Entry) → length h < 1_000_000
             → IsAfter (setup_of s.now) h self.old
             → IsAfter (setup_of s.now) (after_turn (setup_of s.now) n h) self.new) }
@@ -113,18 +101,18 @@ impl Position {
         self.standing.walk(p).next(alloc, program)
     }
 
-    /// Whether both are the same, except for the marks of the last call and the numbers of calls. Nothing is
-    /// proved of the answer `false`.
+    /// Whether both are the same, except for the marks of the last call and the numbers of calls, if both have
+    /// the same tables unless a call set them. Nothing is proved of the answer `false`.
     pub(crate) fn same(&self, other: &Position) -> bool
-        ensures { IsTrue result → AreSame self.now other.now }
+        ensures { IsTrue result → HaveSameTables self.now other.now → AreSame self.now other.now }
     {
         if !self.standing.same(&other.standing) {
             return false;
         }
-        if !self.world.same(&other.world) {
-            return false;
+        if self.tables_set || other.tables_set {
+            return self.world.same(&other.world);
         }
-        true
+        self.world.same_beside_tables(&other.world)
     }
 
     /// p makes its next call.
@@ -142,9 +130,28 @@ impl Position {
     {
         legal_grows();
         meant_laws();
+        tables_stay();
         let reply = self.world.call(alloc, p, event)?;
         self.standing.took(p, program, &reply);
         self.standing.forget(p, program);
+        let set = is_either(self.tables_set, sets_tables(event));
+        self.tables_set = set;
         Ok(reply)
     }
+}
+
+// Whether it is a call that sets an entry, a string or the pairs of the key tables.
+fn sets_tables(event: &Event) -> bool
+    ensures { result ≡ sets_tables event.now }
+{
+    matches!(
+        event,
+        Event::SetEntry(..) | Event::SetFunc(..) | Event::SetDia(..)
+    )
+}
+
+fn is_either(one: bool, other: bool) -> bool
+    ensures { result ≡ (one || other) }
+{
+    one || other
 }

@@ -1,21 +1,20 @@
-ghost use Rattle.std.specs.Prelude.{◌≡◌, ◌≤◌, ◌<◌, ◌+◌, ℕ, List, [], ◌∷◌, Some, IsTrue, IfOk, OnOk, slice_get, length, map};
+ghost use Rattle.std.specs.Prelude.{◌≡◌, ◌≤◌, ◌<◌, ◌+◌, ℕ, List, [], ◌∷◌, Some, IsTrue, IfOk, OnOk, option_map, slice_get, length, map};
 ghost use Rattle.std.specs.Bool.{OnFalse, OnTrue};
 ghost use Rattle.session_order.specs.Orders.{history_of};
 ghost use Rattle.session_order.specs.Serial.{call_now};
 ghost use Rattle.session_order.specs.Sessions.{setup_of};
 ghost use Rattle.session_text.specs.Programs.{program_of};
-ghost use Rattle.vt_events.specs.declared.entry.Entry.{Entry};
 ghost use Rattle.vt_explore.specs.Alike.{Extends, HasLike};
-ghost use Rattle.vt_explore.specs.Positions.{IsAfter};
+ghost use Rattle.vt_explore.specs.Held.{IsHeld, IsPool};
 ghost use Rattle.vt_explore.specs.Findings.{AddsFound, IsTried};
 ghost use Rattle.vt_explore.specs.Searches.{AreSorted, IfKnown};
 
 use crate::Question;
 use crate::findings::Findings;
+use crate::held::Held;
 use crate::order::{MOST_TURNS, Order};
 use crate::places::Places;
-use crate::position::Position;
-use crate::spares::Spares;
+use crate::pool::Pool;
 use crate::tried::Tried;
 use session_order::session_laws;
 use session_text::{Program, Session, program_of};
@@ -24,8 +23,7 @@ use std::marker::Model;
 use vt_base::{CALLERS, CallerNo, NoMemory};
 use vt_events::Event;
 
-/// The orders that were found to lead to different machines. Contracts see them. `start` is the machine
-/// before the first call in each of its methods.
+/// The orders that were found to lead to different machines. Contracts see them.
 #[derive(Drop)]
 pub(crate) struct Search {
     orders: Vec<Order>,
@@ -44,11 +42,11 @@ impl Model for Search {
 
 impl Search {
     /// The order without turns alone.
-    pub(crate) fn start(alloc: Global, start: &Position) -> Result<Search, NoMemory>
+    pub(crate) fn start(alloc: Global, pool: &Pool) -> Result<Search, NoMemory>
         ensures { IfOk result (λ search. search ≡ [] ∷ []) }
     {
         let mut places = Places::new(alloc)?;
-        places.add(start.digest())?;
+        places.add(pool.first().position().digest())?;
         let mut orders = Vec::new(alloc);
         orders.push(Order::none(alloc))?;
         Ok(Search {
@@ -78,125 +76,113 @@ impl Search {
         self.orders.len() <= n
     }
 
-    /// A copy of the order at this place, if there is one.
-    pub(crate) fn copy_at(&self, alloc: Global, place: usize) -> Result<Option<Order>, NoMemory>
-        ensures { IfOk result (λ order. order ≡ slice_get self.now place) }
+    /// The order at this place, if there is one.
+    pub(crate) fn at(&self, place: usize) -> Option<&Order>
+        ensures { option_map (λ order. order.now) result ≡ slice_get self.now place }
     {
-        match self.orders.get(place) {
-            Some(order) => Ok(Some(order.copy(alloc)?)),
-            None => Ok(None),
-        }
+        self.orders.get(place)
     }
 
-    /// Tries each call that can be made after this order, and adds to the findings.
+    /// Tries each call that can be made after the order of this machine, and adds to the findings.
     pub(crate) fn expand<Q: Question>(
         &mut self,
         alloc: Global,
         s: &Session,
         questions: &[Q],
-        start: &Position,
-        spares: &mut Spares,
+        pool: &mut Pool,
         findings: &mut Findings,
-        order: &Order,
+        base: &Held,
     ) -> Result<Tried, NoMemory>
-        requires start { IsAfter (setup_of s.now) [] start.now }
-        requires sorted { AreSorted (setup_of s.now) self.now (length (history_of (setup_of s.now) order.now) + 1) }
+        requires pool { IsPool (setup_of s.now) pool.old }
+        requires base { IsHeld (setup_of s.now) base.now }
+        requires sorted { AreSorted (setup_of s.now) self.now (length (history_of (setup_of s.now) base.now.order) + 1) }
+        ensures pool { OnOk result (IsPool (setup_of s.now) pool.new) }
         ensures grows { OnOk result (Extends self.old self.new) }
-        ensures sorted { OnOk result (AreSorted (setup_of s.now) self.new (length (history_of (setup_of s.now) order.now) + 1)) }
-        ensures found { OnOk result (AddsFound (map Q.wants questions.now) (setup_of s.now) order.now findings.old findings.new) }
+        ensures sorted { OnOk result (AreSorted (setup_of s.now) self.new (length (history_of (setup_of s.now) base.now.order) + 1)) }
+        ensures found { OnOk result (AddsFound (map Q.wants questions.now) (setup_of s.now) base.now.order findings.old findings.new) }
         ensures known { IfOk result (λ t. IfKnown t ((p : ℕ) → IsTried (map Q.wants questions.now) findings.new
-            (setup_of s.now) self.new (history_of (setup_of s.now) order.now) p)) }
+            (setup_of s.now) self.new (history_of (setup_of s.now) base.now.order) p)) }
     {
         session_laws(s);
-        let spare = spares.take(alloc, s)?;
-        let base = spare.after(alloc, s, start, order.as_slice())?;
         for n in 0..CALLERS as u8 {
-            let tried = self.try_caller(
-                alloc, s, questions, start, spares, findings, &base, order, n,
-            )?;
+            let tried = self.try_caller(alloc, s, questions, pool, findings, base, n)?;
             match tried {
                 Tried::Known => {}
                 Tried::Full => return Ok(Tried::Full),
             }
         }
-        spares.keep(base)?;
         Ok(Tried::Known)
     }
 
-    // Tries the call that this caller can make after the order, if it can make one. `base` is the machine
-    // after the order.
+    // Tries the call that this caller can make after the order of the machine, if it can make one.
     fn try_caller<Q: Question>(
         &mut self,
         alloc: Global,
         s: &Session,
         questions: &[Q],
-        start: &Position,
-        spares: &mut Spares,
+        pool: &mut Pool,
         findings: &mut Findings,
-        base: &Position,
-        order: &Order,
+        base: &Held,
         n: u8,
     ) -> Result<Tried, NoMemory>
         requires caller { n < 68 }
-        requires start { IsAfter (setup_of s.now) [] start.now }
-        requires base { IsAfter (setup_of s.now) (history_of (setup_of s.now) order.now) base.now }
-        requires sorted { AreSorted (setup_of s.now) self.now (length (history_of (setup_of s.now) order.now) + 1) }
+        requires pool { IsPool (setup_of s.now) pool.old }
+        requires base { IsHeld (setup_of s.now) base.now }
+        requires sorted { AreSorted (setup_of s.now) self.now (length (history_of (setup_of s.now) base.now.order) + 1) }
+        ensures pool { OnOk result (IsPool (setup_of s.now) pool.new) }
         ensures grows { OnOk result (Extends self.old self.new) }
-        ensures sorted { OnOk result (AreSorted (setup_of s.now) self.new (length (history_of (setup_of s.now) order.now) + 1)) }
-        ensures found { OnOk result (AddsFound (map Q.wants questions.now) (setup_of s.now) order.now findings.old findings.new) }
+        ensures sorted { OnOk result (AreSorted (setup_of s.now) self.new (length (history_of (setup_of s.now) base.now.order) + 1)) }
+        ensures found { OnOk result (AddsFound (map Q.wants questions.now) (setup_of s.now) base.now.order findings.old findings.new) }
         ensures known { IfOk result (λ t. IfKnown t (IsTried (map Q.wants questions.now) findings.new
-            (setup_of s.now) self.new (history_of (setup_of s.now) order.now) n)) }
+            (setup_of s.now) self.new (history_of (setup_of s.now) base.now.order) n)) }
     {
         let p = CallerNo::numbered(u16::from(n));
         let Some(program) = program_of(s.programs(), p) else {
             return Ok(Tried::Known);
         };
-        let Some(event) = base.next(alloc, program, p)? else {
+        let Some(event) = base.position().next(alloc, program, p)? else {
             return Ok(Tried::Known);
         };
-        if MOST_TURNS <= order.as_slice().len() {
+        if MOST_TURNS <= base.order().as_slice().len() {
             return Ok(Tried::Full);
         }
         self.try_call(
-            alloc, s, questions, start, spares, findings, base, order, p, program, &event,
+            alloc, s, questions, pool, findings, base, p, program, &event,
         )
     }
 
-    // Tries this call, which p can make after the order.
+    // Tries this call, which p can make after the order of the machine.
     fn try_call<Q: Question>(
         &mut self,
         alloc: Global,
         s: &Session,
         questions: &[Q],
-        start: &Position,
-        spares: &mut Spares,
+        pool: &mut Pool,
         findings: &mut Findings,
-        base: &Position,
-        order: &Order,
+        base: &Held,
         p: CallerNo,
         program: &Program,
         event: &Event,
     ) -> Result<Tried, NoMemory>
-        requires start { IsAfter (setup_of s.now) [] start.now }
-        requires base { IsAfter (setup_of s.now) (history_of (setup_of s.now) order.now) base.now }
-        requires sorted { AreSorted (setup_of s.now) self.now (length (history_of (setup_of s.now) order.now) + 1) }
+        requires pool { IsPool (setup_of s.now) pool.old }
+        requires base { IsHeld (setup_of s.now) base.now }
+        requires sorted { AreSorted (setup_of s.now) self.now (length (history_of (setup_of s.now) base.now.order) + 1) }
         requires program { program_of (setup_of s.now).programs p ≡ Some program.now }
-        requires call { call_now (setup_of s.now) (history_of (setup_of s.now) order.now) p ≡ Some event.now }
-        requires few { length order.now < 1_000_000 }
+        requires call { call_now (setup_of s.now) (history_of (setup_of s.now) base.now.order) p ≡ Some event.now }
+        requires few { length base.now.order < 1_000_000 }
+        ensures pool { OnOk result (IsPool (setup_of s.now) pool.new) }
         ensures grows { OnOk result (Extends self.old self.new) }
-        ensures sorted { OnOk result (AreSorted (setup_of s.now) self.new (length (history_of (setup_of s.now) order.now) + 1)) }
-        ensures found { OnOk result (AddsFound (map Q.wants questions.now) (setup_of s.now) order.now findings.old findings.new) }
+        ensures sorted { OnOk result (AreSorted (setup_of s.now) self.new (length (history_of (setup_of s.now) base.now.order) + 1)) }
+        ensures found { OnOk result (AddsFound (map Q.wants questions.now) (setup_of s.now) base.now.order findings.old findings.new) }
         ensures known { IfOk result (λ t. IfKnown t (IsTried (map Q.wants questions.now) findings.new
-            (setup_of s.now) self.new (history_of (setup_of s.now) order.now) p)) }
+            (setup_of s.now) self.new (history_of (setup_of s.now) base.now.order) p)) }
     {
-        let longer = order.with(alloc, p.get() as u8)?;
-        let spare = spares.take(alloc, s)?;
-        let mut machine = spare.into_copy(alloc, base)?;
-        let reply = machine.make(alloc, program, p, event)?;
-        findings.ask(alloc, questions, p, event, &reply, &machine.world, &longer)?;
-        self.enter(alloc, s, start, spares, &machine, longer)?;
+        let mut held = pool.copy(alloc, s, base)?;
+        let reply = held.make(alloc, program, p, event)?;
+        let after = &held.position().world;
+        findings.ask(alloc, questions, p, event, &reply, after, held.order())?;
+        self.enter(alloc, s, pool, held)?;
         self.count();
-        spares.keep(machine)?;
         Ok(Tried::Known)
     }
 
@@ -207,27 +193,29 @@ impl Search {
         self.calls = self.calls.saturating_add(1);
     }
 
-    // Adds the order, which leads to this machine, unless such a machine is known.
+    // Adds the order of this machine, unless such a machine is known.
     fn enter(
         &mut self,
         alloc: Global,
         s: &Session,
-        start: &Position,
-        spares: &mut Spares,
-        machine: &Position,
-        order: Order,
+        pool: &mut Pool,
+        held: Held,
     ) -> Result<(), NoMemory>
-        requires start { IsAfter (setup_of s.now) [] start.now }
-        requires machine { IsAfter (setup_of s.now) (history_of (setup_of s.now) order) machine.now }
-        requires sorted { AreSorted (setup_of s.now) self.now (length (history_of (setup_of s.now) order)) }
+        requires pool { IsPool (setup_of s.now) pool.old }
+        requires at { IsHeld (setup_of s.now) held }
+        requires sorted { AreSorted (setup_of s.now) self.now (length (history_of (setup_of s.now) held.order)) }
+        ensures pool { OnOk result (IsPool (setup_of s.now) pool.new) }
         ensures grows { OnOk result (Extends self.old self.new) }
-        ensures sorted { OnOk result (AreSorted (setup_of s.now) self.new (length (history_of (setup_of s.now) order))) }
-        ensures known { OnOk result (HasLike (setup_of s.now) self.new (history_of (setup_of s.now) order)) }
+        ensures sorted { OnOk result (AreSorted (setup_of s.now) self.new (length (history_of (setup_of s.now) held.order))) }
+        ensures known { OnOk result (HasLike (setup_of s.now) self.new (history_of (setup_of s.now) held.order)) }
     {
-        let digest = machine.digest();
-        if self.knows(alloc, s, start, spares, machine, digest)? {
+        let digest = held.position().digest();
+        if self.knows(alloc, s, pool, &held, digest)? {
+            pool.give(s, held)?;
             return Ok(());
         }
+        let order = held.order().copy(alloc)?;
+        pool.keep(s, self.orders.len(), held)?;
         self.places.add(digest)?;
         self.orders.push(order)?;
         Ok(())
@@ -238,22 +226,23 @@ impl Search {
         &self,
         alloc: Global,
         s: &Session,
-        start: &Position,
-        spares: &mut Spares,
-        machine: &Position,
+        pool: &mut Pool,
+        held: &Held,
         digest: u64,
     ) -> Result<bool, NoMemory>
-        requires { IsAfter (setup_of s.now) [] start.now }
-        ensures { IfOk result (λ is. IsTrue is → (h : List Entry)
-            → IsAfter (setup_of s.now) h machine.now → AreSorted (setup_of s.now) self.now (length h)
-            → HasLike (setup_of s.now) self.now h) }
+        requires pool { IsPool (setup_of s.now) pool.old }
+        requires at { IsHeld (setup_of s.now) held.now }
+        ensures pool { OnOk result (IsPool (setup_of s.now) pool.new) }
+        ensures like { IfOk result (λ is. IsTrue is
+            → AreSorted (setup_of s.now) self.now (length (history_of (setup_of s.now) held.now.order))
+            → HasLike (setup_of s.now) self.now (history_of (setup_of s.now) held.now.order)) }
     {
         let mut bound = self.orders.len();
         for _step in 0..self.orders.len() {
             let Some(place) = self.places.below(digest, bound) else {
                 return Ok(false);
             };
-            if self.is_like(alloc, s, start, spares, machine, place)? {
+            if self.is_like(alloc, s, pool, held, place)? {
                 return Ok(true);
             }
             bound = place;
@@ -266,24 +255,20 @@ impl Search {
         &self,
         alloc: Global,
         s: &Session,
-        start: &Position,
-        spares: &mut Spares,
-        machine: &Position,
+        pool: &mut Pool,
+        held: &Held,
         place: usize,
     ) -> Result<bool, NoMemory>
-        requires { IsAfter (setup_of s.now) [] start.now }
-        ensures { IfOk result (λ is. IsTrue is → (h : List Entry)
-            → IsAfter (setup_of s.now) h machine.now → AreSorted (setup_of s.now) self.now (length h)
-            → HasLike (setup_of s.now) self.now h) }
+        requires pool { IsPool (setup_of s.now) pool.old }
+        requires at { IsHeld (setup_of s.now) held.now }
+        ensures pool { OnOk result (IsPool (setup_of s.now) pool.new) }
+        ensures like { IfOk result (λ is. IsTrue is
+            → AreSorted (setup_of s.now) self.now (length (history_of (setup_of s.now) held.now.order))
+            → HasLike (setup_of s.now) self.now (history_of (setup_of s.now) held.now.order)) }
     {
-        session_laws(s);
         let Some(order) = self.orders.get(place) else {
             return Ok(false);
         };
-        let spare = spares.take(alloc, s)?;
-        let other = spare.after(alloc, s, start, order.as_slice())?;
-        let is_same = other.same(machine);
-        spares.keep(other)?;
-        Ok(is_same)
+        pool.is_like(alloc, s, place, order, held)
     }
 }

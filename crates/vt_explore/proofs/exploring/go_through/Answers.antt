@@ -1,8 +1,9 @@
-use Rattle.std.proofs.Common.{◌≡◌, ℕ, ◌+◌, ◌≤◌, List, [], length, map, Some, None, arith, refl, sym, ◌∙◌, subst}
+use Rattle.std.proofs.Common.{◌≡◌, ℕ, ◌+◌, ◌≤◌, List, [], length, map, Some, None, arith, refl, sym, ap, ◌∙◌, subst}
 use Rattle.std.proofs.lemmas.Option.{none-some}
 use Rattle.std.specs.Bool.{OnTrue}
 use Rattle.std.specs.Prelude.{slice_get}
 use Rattle.vt_explore.proofs.Finding.{first_more, tried_more}
+use Rattle.vt_explore.proofs.Holding.{found_none, found_some}
 use Rattle.vt_explore.proofs.Likes.{alike_same}
 use Rattle.vt_explore.proofs.Nevers.{get_first, get_past, like_longer, never_from}
 use Rattle.vt_explore.proofs.Sorted.{sorted_more, sorted_start}
@@ -20,6 +21,7 @@ pub loop-next-init : goal.loop-next-init
 loop-next-init g c =
     let o : Setup = setup_of c.args.s.now in
     record {
+      pool = c.requires.pool;
       start = subst (λ known. HasLike o known []) (sym c.requires.search)
           (record { place = 0; order = []; at = refl; alike = alike_same o [] [] refl; few = omega arith });
       tried = λ i wants at none k order p low. absurd (let no : ⊥ = omega (arith, low) in no);
@@ -36,12 +38,15 @@ loop-next-preserved g c =
     let b : List (List ℕ) = c.expand.new.self in
     let old : List Finding = c.loop-next.findings in
     let new : List Finding = c.expand.new.findings in
-    let last : List ℕ = c.in-Some.order in
+    let last : List ℕ = c.in_ok-base.base.order in
     let n : ℕ = c.loop-next.next in
-    let here : slice_get a n ≡ Some last = sym c.in_ok-order.ensures ∙ c.in-Some.is in
+    let here : slice_get a n ≡ Some last =
+    found_some (λ order. order.now) c.at.result _ c.in-Some.order c.at.ensures c.in-Some.is
+    ∙ ap Some (sym c.in_ok-base.ensures.order) in
     let known : (p : ℕ) → IsTried all new o b (history_of o last) p =
     subst (λ t. IfKnown t ((p : ℕ) → IsTried all new o b (history_of o last) p)) c.in-Known.is c.in_ok-tried.ensures.known in
     record {
+      pool = c.in_ok-give.ensures;
       start = like_longer o a b [] c.in_ok-tried.ensures.grows c.loop-next.invariant.start;
       tried =
           tried_more all o a b n last old new c.in_ok-tried.ensures.grows c.in_ok-tried.ensures.found
@@ -61,15 +66,17 @@ loop-next-preserved g c =
 pub returns-in_default-clause-none : goal.returns-in_default-clause-none
 returns-in_default-clause-none g c = λ i wants at none.
     never_from wants (setup_of c.args.s.now) c.loop-next.search c.loop-next.next c.loop-next.invariant.start
-    (c.loop-next.invariant.tried i wants at none) (sym c.in_ok-order.ensures ∙ c.in_default.is)
+    (c.loop-next.invariant.tried i wants at none) (found_none (λ order. order.now) c.at.result _ c.at.ensures c.in_default.is)
 
 pub returns-in-Full-clause-first : goal.returns-in-Full-clause-first
 returns-in-Full-clause-first g c =
     let all : List Wants = map g.Q.Question.wants c.args.questions.now in
     let o : Setup = setup_of c.args.s.now in
-    let last : List ℕ = c.in-Some.order in
+    let last : List ℕ = c.in_ok-base.base.order in
     let n : ℕ = c.loop-next.next in
-    let here : slice_get c.loop-next.search n ≡ Some last = sym c.in_ok-order.ensures ∙ c.in-Some.is in
+    let here : slice_get c.loop-next.search n ≡ Some last =
+    found_some (λ order. order.now) c.at.result _ c.in-Some.order c.at.ensures c.in-Some.is
+    ∙ ap Some (sym c.in_ok-base.ensures.order) in
     first_more all o c.loop-next.search n (length (history_of o last) + 1) last c.loop-next.findings c.expand.new.findings
     c.loop-next.invariant.start c.loop-next.invariant.tried (c.loop-next.invariant.sorted last here) here c.in_ok-tried.ensures.found
     c.loop-next.invariant.first
@@ -78,9 +85,11 @@ pub returns-then-have_all-clause-first : goal.returns-then-have_all-clause-first
 returns-then-have_all-clause-first g c =
     let all : List Wants = map g.Q.Question.wants c.args.questions.now in
     let o : Setup = setup_of c.args.s.now in
-    let last : List ℕ = c.in-Some.order in
+    let last : List ℕ = c.in_ok-base.base.order in
     let n : ℕ = c.loop-next.next in
-    let here : slice_get c.loop-next.search n ≡ Some last = sym c.in_ok-order.ensures ∙ c.in-Some.is in
+    let here : slice_get c.loop-next.search n ≡ Some last =
+    found_some (λ order. order.now) c.at.result _ c.in-Some.order c.at.ensures c.in-Some.is
+    ∙ ap Some (sym c.in_ok-base.ensures.order) in
     first_more all o c.loop-next.search n (length (history_of o last) + 1) last c.loop-next.findings c.expand.new.findings
     c.loop-next.invariant.start c.loop-next.invariant.tried (c.loop-next.invariant.sorted last here) here c.in_ok-tried.ensures.found
     c.loop-next.invariant.first

@@ -1,4 +1,4 @@
-use Rattle.std.proofs.Common.{ℕ, [], ◌∷◌, ◌++◌, length, refl, sym, ap, ◌∙◌, subst}
+use Rattle.std.proofs.Common.{ℕ, [], ◌∷◌, ◌++◌, length, refl, sym, ◌∙◌, subst}
 use Rattle.vt_explore.proofs.Nevers.{extends_same, like_itself}
 use Rattle.vt_explore.proofs.Sorted.{sorted_push}
 use Rattle.vt_explore.specs.Alike.{HasLike}
@@ -16,25 +16,29 @@ returns-then-branch-clause-sorted c = c.requires.sorted
 
 pub returns-then-branch-clause-known : goal.returns-then-branch-clause-known
 returns-then-branch-clause-known c =
-    c.in_ok-knows.ensures c.if-branch.true (history_of (setup_of c.args.s.now) c.args.order) c.requires.machine
-    c.requires.sorted
+    c.in_ok-knows.ensures.like c.if-branch.true c.requires.sorted
 
 pub returns-clause-grows : goal.returns-clause-grows
 returns-clause-grows c = record {
-  more = c.args.order ∷ [];
-  is = c.in_ok-push.ensures.items ∙ ap (λ known. known ++ c.args.order ∷ []) c.self.view_is;
+  more = c.args.held.order ∷ [];
+  is =
+      c.in_ok-push.ensures.items
+      ∙ (λ i. c.self.view_is i ++ (c.in_ok-order.ensures ∙ c.order.ensures) i ∷ []);
 }
 
 pub returns-clause-sorted : goal.returns-clause-sorted
 returns-clause-sorted c =
     let o : Setup = setup_of c.args.s.now in
-    let most : ℕ = length (history_of o c.args.order) in
+    let most : ℕ = length (history_of o c.args.held.order) in
     subst (λ known. AreSorted o known most)
-    (sym (c.in_ok-push.ensures.items ∙ ap (λ known. known ++ c.args.order ∷ []) c.self.view_is))
-    (sorted_push o c.args.self.now c.args.order most refl c.requires.sorted)
+    (sym (c.in_ok-push.ensures.items
+    ∙ (λ i. c.self.view_is i ++ (c.in_ok-order.ensures ∙ c.order.ensures) i ∷ [])))
+    (sorted_push o c.args.self.now c.args.held.order most refl c.requires.sorted)
 
 pub returns-clause-known : goal.returns-clause-known
 returns-clause-known c =
-    subst (λ known. HasLike (setup_of c.args.s.now) known (history_of (setup_of c.args.s.now) c.args.order))
-    (sym (c.in_ok-push.ensures.items ∙ ap (λ known. known ++ c.args.order ∷ []) c.self.view_is))
-    (like_itself (setup_of c.args.s.now) c.args.self.now c.args.order (history_of (setup_of c.args.s.now) c.args.order) refl)
+    subst (λ known. HasLike (setup_of c.args.s.now) known (history_of (setup_of c.args.s.now) c.args.held.order))
+    (sym (c.in_ok-push.ensures.items
+    ∙ (λ i. c.self.view_is i ++ (c.in_ok-order.ensures ∙ c.order.ensures) i ∷ [])))
+    (like_itself (setup_of c.args.s.now) c.args.self.now c.args.held.order
+    (history_of (setup_of c.args.s.now) c.args.held.order) refl)

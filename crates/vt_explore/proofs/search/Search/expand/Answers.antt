@@ -3,7 +3,6 @@ use Rattle.std.proofs.lemmas.Bool.{cases_lt}
 use Rattle.vt_explore.proofs.Finding.{adds_none, adds_trans, tried_longer}
 use Rattle.vt_explore.proofs.Nevers.{extends_same, extends_trans, now_past, opened_none}
 use Rattle.vt_explore.specs.Findings.{IsTried}
-use Rattle.vt_explore.specs.Positions.{IsAfter}
 use Rattle.vt_explore.specs.Questions.{Wants}
 use Rattle.vt_explore.specs.Searches.{IfKnown}
 use Rattle.vt_explore.specs.declared.findings.Finding.{Finding}
@@ -15,10 +14,11 @@ use Rattle.vt_explore.proofs.search.Search.expand.Goals as goal
 
 pub loop-n-init : goal.loop-n-init
 loop-n-init g c = record {
+  pool = c.requires.pool;
   grows = extends_same c.args.self.now;
   sorted = c.requires.sorted;
   found =
-      adds_none (map g.Q.Question.wants c.args.questions.now) (setup_of c.args.s.now) c.args.order.now
+      adds_none (map g.Q.Question.wants c.args.questions.now) (setup_of c.args.s.now) c.args.base.now.order
       c.args.findings.now;
   tried = λ p low. absurd (let no : ⊥ = omega (arith, low) in no);
 }
@@ -27,7 +27,7 @@ pub loop-n-preserved : goal.loop-n-preserved
 loop-n-preserved g c =
     let all : List Wants = map g.Q.Question.wants c.args.questions.now in
     let o : Setup = setup_of c.args.s.now in
-    let order : List ℕ = c.args.order.now in
+    let order : List ℕ = c.args.base.now.order in
     let h : List Entry = history_of o order in
     let a : List (List ℕ) = c.loop-n.self in
     let b : List (List ℕ) = c.try_caller.new.self in
@@ -36,6 +36,7 @@ loop-n-preserved g c =
     let known : IsTried all new o b h c.loop-n.n =
     subst (λ t. IfKnown t (IsTried all new o b h c.loop-n.n)) c.in-Known.is c.in_ok-tried.ensures.known in
     record {
+      pool = c.in_ok-tried.ensures.pool;
       grows = extends_trans c.args.self.now a b c.loop-n.invariant.grows c.in_ok-tried.ensures.grows;
       sorted = c.in_ok-tried.ensures.sorted;
       found = adds_trans all o order c.args.findings.now old new c.loop-n.invariant.found c.in_ok-tried.ensures.found;
@@ -51,7 +52,7 @@ returns-in-Full-clause-grows g c =
 
 pub returns-in-Full-clause-found : goal.returns-in-Full-clause-found
 returns-in-Full-clause-found g c =
-    adds_trans (map g.Q.Question.wants c.args.questions.now) (setup_of c.args.s.now) c.args.order.now c.args.findings.now
+    adds_trans (map g.Q.Question.wants c.args.questions.now) (setup_of c.args.s.now) c.args.base.now.order c.args.findings.now
     c.loop-n.findings c.try_caller.new.findings c.loop-n.invariant.found c.in_ok-tried.ensures.found
 
 pub returns-in-Full-clause-sorted : goal.returns-in-Full-clause-sorted
@@ -69,7 +70,7 @@ returns-clause-found g c = c.loop-n.invariant.found
 pub returns-clause-known : goal.returns-clause-known
 returns-clause-known g c = λ p i wants at none.
     let o : Setup = setup_of c.args.s.now in
-    let h : List Entry = history_of o c.args.order.now in
+    let h : List Entry = history_of o c.args.base.now.order in
     ⊎_elim
     (λ low. c.loop-n.invariant.tried p (omega (arith, low, c.loop-n-test.false)) i wants at none)
     (λ past. opened_none wants o c.loop-n.self h p
@@ -77,9 +78,16 @@ returns-clause-known g c = λ p i wants at none.
     (cases_lt p 68)
 
 pub try_caller-requires-clause-base : goal.try_caller-requires-clause-base
-try_caller-requires-clause-base g c =
-    let o : Setup = setup_of c.args.s.now in
-    subst (λ turns. IsAfter o (history_of o turns) c.in_ok-base.base) c.as_slice.ensures.callers c.in_ok-base.ensures
+try_caller-requires-clause-base g c = c.requires.base
+
+pub try_caller-requires-clause-pool : goal.try_caller-requires-clause-pool
+try_caller-requires-clause-pool g c = c.loop-n.invariant.pool
 
 pub try_caller-requires-clause-sorted : goal.try_caller-requires-clause-sorted
 try_caller-requires-clause-sorted g c = c.loop-n.invariant.sorted
+
+pub returns-clause-pool : goal.returns-clause-pool
+returns-clause-pool g c = c.loop-n.invariant.pool
+
+pub returns-in-Full-clause-pool : goal.returns-in-Full-clause-pool
+returns-in-Full-clause-pool g c = c.in_ok-tried.ensures.pool

@@ -22,7 +22,7 @@ returns-in_default-clause-sorted g c = c.requires.sorted
 
 pub returns-in_default-clause-found : goal.returns-in_default-clause-found
 returns-in_default-clause-found g c =
-    adds_none (map g.Q.Question.wants c.args.questions.now) (setup_of c.args.s.now) c.args.order.now
+    adds_none (map g.Q.Question.wants c.args.questions.now) (setup_of c.args.s.now) c.args.base.now.order
     c.args.findings.now
 
 pub returns-in_default-clause-known : goal.returns-in_default-clause-known
@@ -34,7 +34,7 @@ returns-in_default-clause-known g c =
     let none : program_of o.programs p ≡ None =
     ap (λ programs. program_of programs p) (sym c.programs.ensures.same)
     ∙ program_none (λ program. program.now) c.program_of.result _ c.program_of.ensures c.in_default.is in
-    let h : List Entry = history_of o c.args.order.now in
+    let h : List Entry = history_of o c.args.base.now.order in
     subst (IsTried all c.args.findings.now o c.args.self.now h) same
     (λ i wants at open_before. opened_none wants o c.args.self.now h p (now_nobody o h p none))
 
@@ -46,7 +46,7 @@ returns-in_default-2-clause-sorted g c = c.requires.sorted
 
 pub returns-in_default-2-clause-found : goal.returns-in_default-2-clause-found
 returns-in_default-2-clause-found g c =
-    adds_none (map g.Q.Question.wants c.args.questions.now) (setup_of c.args.s.now) c.args.order.now
+    adds_none (map g.Q.Question.wants c.args.questions.now) (setup_of c.args.s.now) c.args.base.now.order
     c.args.findings.now
 
 pub returns-in_default-2-clause-known : goal.returns-in_default-2-clause-known
@@ -55,11 +55,11 @@ returns-in_default-2-clause-known g c =
     let o : Setup = setup_of c.args.s.now in
     let p : ℕ = c.numbered-p.result in
     let same : p ≡ c.args.n = c.numbered-p.ensures ∙ c.from.ensures in
-    let h : List Entry = history_of o c.args.order.now in
+    let h : List Entry = history_of o c.args.base.now.order in
     let is : program_of o.programs p ≡ Some c.in-Some.program.now =
     ap (λ programs. program_of programs p) (sym c.programs.ensures.same)
     ∙ program_some (λ program. program.now) c.program_of.result _ c.in-Some.program c.program_of.ensures c.in-Some.is in
-    let at : IsAfter o h c.args.base.now = c.requires.base in
+    let at : IsAfter o h c.position.result.now = subst (IsAfter o h) (sym c.position.ensures) c.requires.base in
     subst (IsTried all c.args.findings.now o c.args.self.now h) same
     (λ i wants here open_before. opened_none wants o c.args.self.now h p
     (sym (c.in_ok-event.ensures o h is at) ∙ c.in_default-2.is))
@@ -72,7 +72,7 @@ returns-then-as_slice-ge-MOST_TURNS-clause-sorted g c = c.requires.sorted
 
 pub returns-then-as_slice-ge-MOST_TURNS-clause-found : goal.returns-then-as_slice-ge-MOST_TURNS-clause-found
 returns-then-as_slice-ge-MOST_TURNS-clause-found g c =
-    adds_none (map g.Q.Question.wants c.args.questions.now) (setup_of c.args.s.now) c.args.order.now
+    adds_none (map g.Q.Question.wants c.args.questions.now) (setup_of c.args.s.now) c.args.base.now.order
     c.args.findings.now
 
 pub try_call-requires-clause-program : goal.try_call-requires-clause-program
@@ -87,17 +87,19 @@ try_call-requires-clause-call g c =
     let is : program_of o.programs p ≡ Some c.in-Some.program.now =
     ap (λ programs. program_of programs p) (sym c.programs.ensures.same)
     ∙ program_some (λ program. program.now) c.program_of.result _ c.in-Some.program c.program_of.ensures c.in-Some.is in
-    sym (c.in_ok-event.ensures o (history_of o c.args.order.now) is c.requires.base) ∙ c.in-Some-2.is
+    let h : List Entry = history_of o c.args.base.now.order in
+    let at : IsAfter o h c.position.result.now = subst (IsAfter o h) (sym c.position.ensures) c.requires.base in
+    sym (c.in_ok-event.ensures o h is at) ∙ c.in-Some-2.is
 
 pub try_call-requires-clause-few : goal.try_call-requires-clause-few
 try_call-requires-clause-few g c =
-    omega (arith, c.if-as_slice-ge-MOST_TURNS.false, ap length c.as_slice.ensures.callers)
+    omega (arith, c.if-as_slice-ge-MOST_TURNS.false, ap length (c.as_slice.ensures.callers ∙ c.order.ensures))
 
 pub returns-clause-known : goal.returns-clause-known
 returns-clause-known g c =
     let all : List Wants = map g.Q.Question.wants c.args.questions.now in
     let o : Setup = setup_of c.args.s.now in
-    let h : List Entry = history_of o c.args.order.now in
+    let h : List Entry = history_of o c.args.base.now.order in
     subst
     (λ q. IfOk c.try_call.result (λ t. IfKnown t (IsTried all c.try_call.new.findings o c.try_call.new.self h q)))
     (c.numbered-p.ensures ∙ c.from.ensures) c.try_call.ensures.known
