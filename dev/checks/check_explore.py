@@ -11,8 +11,7 @@ if just its states are allowed, and to be a `limit` with one less.
 
 N small sessions (60 without --sessions; from seed --first on) are made by order_sessions.py. For each of them a second
 program, second_orders.py, goes through all orders: its answers, the least numbers of turns, and the numbers of states
-and calls have to be the same. `explore` may count more states if a program took several signals at once: it keeps those
-without an act, as long as one with an act is left.
+and calls have to be the same.
 
 Words that are no question and damaged sessions have to end with their status and line. Each request for memory is
 refused once, if there is a C compiler (cc): the run has to end as without it, or with status 4 and nothing on out.
@@ -172,9 +171,7 @@ def second_faults(explore, vt, seed):
         if written(answer["question"]) != written(plain):
             yield f"{text}: written as {answer['question']}, and not as {plain}"
     _, counts = answers(explore, session, [])
-    exact = counts["states"] == second.states and counts["calls"] == second.calls
-    more = second.several_taken and second.states < counts["states"]
-    if not exact and not more:
+    if (counts["states"], counts["calls"]) != (second.states, second.calls):
         yield f"{counts['states']} states and {counts['calls']} calls, and not {second.states} and {second.calls}"
     found = [answer for answer in each if answer["answer"] == "found"]
     if found:

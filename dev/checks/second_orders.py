@@ -273,14 +273,8 @@ def asks(question, caller, call, said, after):
     return True
 
 
-# The least number of turns for each question, the numbers of states and calls, and whether a program took several
-# signals at once, of which one has a hook.
-Found = collections.namedtuple("Found", "answers states calls several_taken")
-
-
-def bits_of(said):
-    """How many signals an answer of `signals` has."""
-    return int(said.split(" ")[1]).bit_count() if said.startswith("sigs ") else 0
+# The least number of turns for each question, and the numbers of states and calls.
+Found = collections.namedtuple("Found", "answers states calls")
 
 
 def explore(session, questions, most=100_000):
@@ -291,7 +285,7 @@ def explore(session, questions, most=100_000):
     start = Machine(session)
     level = [(start, {caller: Walk(0, "item", ()) for caller in callers})]
     seen = {(start.key_(), repr(level[0][1]))}
-    calls = turns = several = 0
+    calls = turns = 0
     while level:
         turns, after = turns + 1, []
         for machine, walks in level:
@@ -306,7 +300,6 @@ def explore(session, questions, most=100_000):
                     if answers[i] is None and asks(question, caller, call, said, then):
                         answers[i] = turns
                 ways = {**walks, caller: programs[caller].took(walks[caller], call, said)}
-                several = several or (call[0] == "signals" and ways[caller].left and bits_of(said) > 1)
                 key = (then.key_(), repr(ways))
                 if key not in seen:
                     seen.add(key)
@@ -314,4 +307,4 @@ def explore(session, questions, most=100_000):
                     if len(seen) > most:
                         raise Unread("more states than are kept")
         level = after
-    return Found(answers, len(seen), calls, bool(several))
+    return Found(answers, len(seen), calls)
