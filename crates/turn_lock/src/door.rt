@@ -106,7 +106,7 @@ impl Door {
         let next = called.wrapping_add(1);
         if counts.compare_exchange::<CallIn>(&mut seat, CALLED, called, next) == called {
             self.since.store(served, SeqCst);
-            self.bells.ring(called);
+            let _ = self.bells.ring(called);
         }
     }
 }

@@ -17,6 +17,7 @@ mod seal;
 mod view;
 mod visitor;
 
+pub use bells::Rung;
 pub use entry::Entry;
 pub use held::Held;
 pub use kept::Kept;
