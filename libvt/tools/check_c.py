@@ -57,6 +57,16 @@ COMPILERS = {
     "cc": ("c", [*STRICT, "-Wstrict-prototypes"]), "c++": ("c++", [*STRICT, "-Wold-style-cast"]),
     "clang": ("c", EVERY), "clang++": ("c++", EVERY),
 }  # fmt: skip
+# What a program makes of the header's macros.
+USES = b"""#include <vt.h>
+size_t most(uint32_t rows, uint32_t cols);
+size_t most(uint32_t rows, uint32_t cols)
+{
+    const struct vt_modes modes = VT_MODES_START;
+    const struct vt_key_state state = VT_KEY_STATE_START;
+    return VT_REDRAW_MOST(rows, cols) + modes.repeat + vt_key_lights(&state);
+}
+"""
 # How a program is linked with the installed library.
 LINKS = {
     "shared": "$(pkg-config --cflags --libs vt)",
@@ -91,7 +101,7 @@ def check_header(bench):
             continue
         for standard in STANDARDS[language].split():
             words = [compiler, "-x", language, f"-std={standard}", *warnings, "-fsyntax-only", "-I", HEADER.parent, "-"]
-            bench.ends_well(words, f"vt.h as {standard} by {compiler}", b"#include <vt.h>\n")
+            bench.ends_well(words, f"vt.h as {standard} by {compiler}", USES)
     check_header_beside(bench)
     calls = calls_of_header()
     for name, option in (("libvt.a", "-g"), ("libvt.so.1", "-D")):
