@@ -12,8 +12,10 @@ usage: check_c.py [--library OUT | --gate] [--vt PROGRAM] [--only CHECK,..] [--a
 - `cuts`, `outs`, `workloads`: the recordings of examples/ in pieces of 1, 7, 64, 4,096 bytes and whole, with room for
   0, 1, 2, 64 and 5,000 outs; a text that asks for thousands of things in eight cuts; the ten workloads of
   dev/bench/inputs.py. The rows are those that `vt screen` prints.
-- `memory`: each request for memory refused once. `threads`: handles that go between threads, and eight threads that
-  read one handle at once, under helgrind too.
+- `steps`: 200 runs of random texts and resizes: after each step the screen is that of a console of `vt play`, and so
+  are those that redraws make on another screen; the changed rows are those that differ from the mark.
+- `memory`: each request for memory refused, alone and with all that follow. `threads`: handles that go between
+  threads, and eight threads that read one handle at once, under helgrind too.
 - `keys`, `faults`: random runs of keys (1,000, or --runs) are typed as `vt type` does; faults of keymaps are those of `vt keys`.
 - `terminal`: libvt/examples/term.c on a pseudo-terminal. `programs`: vim, less, htop, dialog and mc in it, in tmux.
 - `python`, `rust`: the tests of the bindings. `fuzz`: the fuzzer's corpus (libvt/tools/fuzz_c.sh looks for more).
@@ -42,7 +44,7 @@ sys.path.insert(0, str(pathlib.Path(__file__).resolve().parents[2] / "dev"))
 
 import repository  # noqa: E402,F401: it has the folders of the modules below
 import package  # noqa: E402
-from c_library import drawn, guide, interface, machines, programs, terminal, typed  # noqa: E402
+from c_library import drawn, guide, interface, machines, programs, steps, terminal, typed  # noqa: E402
 from c_library.bench import (  # noqa: E402
     EXAMPLES, SANITIZERS, TESTS, TOP, VALGRIND, WARNINGS, Bench, Missing)
 from programs import find_for_check  # noqa: E402
@@ -276,6 +278,7 @@ CHECKS = {
     "cuts by valgrind": drawn.check_cuts_by_valgrind,
     "outs": drawn.check_outs,
     "workloads": drawn.check_workloads,
+    "steps": steps.check_steps,
     "memory": check_memory,
     "threads": check_threads,
     "keys": typed.check_keys,
