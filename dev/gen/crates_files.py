@@ -25,7 +25,9 @@ CONSTANT = re.compile(rf"{OPEN}const (\w+)")
 TEST = re.compile(r"#\[test\]\n(?:#\[.*\n)*fn (\w+)")
 OWNER = re.compile(r"impl(?:<[^>]*>)? (?:[\w:<>]+ for )?(\w+)")
 DOC = re.compile(r"\s*/// ?(.*)")
-DEFINED = re.compile(r"(?:abbrev |unfoldable |opaque )?pub (?:record |data )?(?!mod )([^\W\d][\w'-]*|◌\S+)")
+NAME = r"([^\W\d][\w'-]*|◌\S+)"
+# What a file defines; inside a module with parameters a line is indented, as the fields of a record are.
+DEFINED = re.compile(rf"(?:(?:  )?(?:abbrev |unfoldable |opaque )pub |(?:  )?pub (?:record|data) |pub (?!mod )){NAME}")
 MODULES = re.compile(rf"(?:ghost use |use |(?:{OPEN})?(?:mod|use) |#|//|--|\s|}}|$)")
 
 
