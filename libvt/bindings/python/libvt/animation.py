@@ -5,8 +5,9 @@ usage: python3 -m libvt.animation [--at S | --pause S --rate N] [--size R C] [--
 
 The cells of each frame are those of the library's picture (Screen.picture). Each row is a strip of all its states, one
 below the other, of which one is seen at a time; keyframes of CSS move the strips. Between two states is an empty row,
-since letters may be higher than a row. Output that is less than 1/N seconds apart (20) is one frame. A pause is at most
-S seconds long (2), and so is the one at the end. A viewer that reduces motion shows the last frame.
+since letters may be higher than a row. The background of a row reaches one pixel below it, under the next row, so no
+line is seen between two rows at any scale. Output that is less than 1/N seconds apart (20) is one frame. A pause is at
+most S seconds long (2), and so is the one at the end. A viewer that reduces motion shows the last frame.
 
 --at S prints the still picture of the screen S seconds after the start of the recording. --size has the rows and
 columns of a recording that doesn't have them. Statuses: 0 the picture was written; 1 the words or the recording aren't
@@ -28,6 +29,7 @@ from .terminal import Event
 
 PROGRAM = "animation.py"
 CELL = 8
+OVERLAP = 1
 # An element of a picture, with its place.
 ELEMENT = re.compile(r"<(rect|text) x='([0-9]+)' y='([0-9]+)'(?: width='[0-9]+' height='([0-9]+)' fill='([^']+)')?")
 STILL = "@media(prefers-reduced-motion:reduce){g{animation:none!important}}"
@@ -59,6 +61,11 @@ def moved(line: str, pixels: int) -> str:
     return re.sub(r" y='([0-9]+)'", lambda match: f" y='{int(match[1]) + pixels}'", line, count=1)
 
 
+def deepened(line: str, height: int) -> str:
+    """An element of a row; a background reaches below the row."""
+    return re.sub(rf"^(<rect [^>]* height=)'{height}'", rf"\1'{height + OVERLAP}'", line)
+
+
 def frame_of(moment: float, picture: str, size: tuple[int, int]) -> Frame:
     """A frame, from the picture of a screen."""
     found = re.search(r" height='([0-9]+)'>\n", picture)
@@ -73,7 +80,7 @@ def frame_of(moment: float, picture: str, size: tuple[int, int]) -> Frame:
         if element[1] == "rect" and int(element[4] or height) < height:
             cursor = Cursor(x, row * height, element[5])
         else:
-            rows[row] += moved(line, -row * height) + "\n"
+            rows[row] += deepened(moved(line, -row * height), height) + "\n"
     style = re.search(r"<style>(.*)</style>", picture)
     return Frame(moment, size, height, rows, cursor, picture.partition("\n")[0], style[1] if style else "")
 
@@ -155,7 +162,8 @@ def strip(row: int, frames: list[Frame], whole: float) -> tuple[str, str]:
     width = CELL * max(frame.size[1] for frame in frames)
     if len(numbers) == 1:
         return "", f"<g transform='translate(0 {height * row})'>\n{elements}</g>\n"
-    head = f"<svg y='{height * row}' width='{width}' height='{height}'><g id='r{row}' style='{shifts[-1][1]}'>"
+    size = f"width='{width}' height='{height + OVERLAP}'"
+    head = f"<svg y='{height * row}' {size}><g id='r{row}' style='{shifts[-1][1]}'>"
     return keyframes(f"r{row}", steps_of(shifts), whole), f"{head}\n{elements}</g></svg>\n"
 
 
