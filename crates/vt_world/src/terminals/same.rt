@@ -1,6 +1,6 @@
 //! Whether the terminals of two machines are the same, and the copy of one machine's into the other.
-ghost use Rattle.std.specs.Prelude.{◌≡◌, Some, IfOk, IsTrue, OnErr, OnOk, length};
-ghost use Rattle.vt_world.specs.Rooms.{HasRoom, HaveRoom};
+ghost use Rattle.std.specs.Prelude.{◌≡◌, Some, None, IfOk, IsTrue, OnErr, OnOk, length};
+ghost use Rattle.vt_world.specs.Rooms.{AreHeldBy, HasRoom, HaveRoom, IsHeldBy};
 
 use crate::terminal::Terminal;
 use crate::terminals::Terminals;
@@ -27,7 +27,12 @@ impl Terminals {
             copy_places(self.places.as_mut_slice(), other.places.as_slice());
             return Ok(());
         }
-        self.places = copies_of(alloc, other.places.as_slice())?;
+        let mut grids = grids_for(alloc, self.places.as_slice(), other.places.as_slice())?;
+        copy_onto(
+            self.places.as_mut_slice(),
+            grids.as_mut_slice(),
+            other.places.as_slice(),
+        );
         Ok(())
     }
 }
@@ -100,7 +105,16 @@ fn copy_place(place: &mut Option<Terminal>, other: &Option<Terminal>)
 {
     match other {
         Some(terminal) => copy_terminal(place, terminal),
-        None => *place = None,
+        None => free(place),
+    }
+}
+
+// The place has no terminal then.
+fn free(place: &mut Option<Terminal>)
+    ensures { place.new ≡ None }
+{
+    if place.is_some() {
+        *place = None;
     }
 }
 
@@ -114,35 +128,91 @@ fn copy_terminal(place: &mut Option<Terminal>, terminal: &Terminal)
     }
 }
 
-// Copies of all terminals at their places.
-fn copies_of(alloc: Global, others: &[Option<Terminal>]) -> Result<Vec<Option<Terminal>>, NoMemory>
-    ensures { IfOk result (λ places. places.items ≡ others.now) }
+// A grid for each of the others' screens that doesn't fit at its place.
+fn grids_for(
+    alloc: Global,
+    places: &[Option<Terminal>],
+    others: &[Option<Terminal>],
+) -> Result<Vec<Option<Grid>>, NoMemory>
+    requires { length places.now ≡ length others.now }
+    ensures many { IfOk result (λ grids. length grids.items ≡ length others.now) }
+    ensures fit { IfOk result (λ grids. AreHeldBy 0 (length others.now) places.now grids.items others.now) }
 {
-    let mut places = Vec::with_capacity(alloc, others.len())?;
+    let mut grids = Vec::with_capacity(alloc, others.len())?;
     for i in 0..others.len() {
-        places.push(copy_at(alloc, &others[i])?)?;
+        grids.push(grid_for(alloc, &places[i], &others[i])?)?;
     }
-    Ok(places)
+    Ok(grids)
 }
 
-// A copy of the terminal at a place, if there is one.
-fn copy_at(alloc: Global, other: &Option<Terminal>) -> Result<Option<Terminal>, NoMemory>
-    ensures { IfOk result (λ copy. copy ≡ other.now) }
+// A grid for the other's screen, if it has one that doesn't fit at the place.
+fn grid_for(
+    alloc: Global,
+    place: &Option<Terminal>,
+    other: &Option<Terminal>,
+) -> Result<Option<Grid>, NoMemory>
+    ensures { IfOk result (λ grid. IsHeldBy place.now grid other.now) }
 {
+    if has_room(place, other) {
+        return Ok(None);
+    }
     match other {
-        Some(terminal) => Ok(Some(copy_of(alloc, terminal)?)),
+        Some(terminal) => {
+            let size = terminal.emu().grid().size();
+            Ok(Some(Grid::blank(alloc, size, BLANK)?))
+        }
         None => Ok(None),
     }
 }
 
-// A copy of the terminal.
-fn copy_of(alloc: Global, terminal: &Terminal) -> Result<Terminal, NoMemory>
-    ensures { IfOk result (λ copy. copy ≡ terminal.now) }
+// All places become the others, whose screens fit there or on the grids.
+fn copy_onto(
+    places: &mut [Option<Terminal>],
+    grids: &mut [Option<Grid>],
+    others: &[Option<Terminal>],
+)
+    requires same { length places.old ≡ length others.now }
+    requires many { length grids.old ≡ length others.now }
+    requires fit { AreHeldBy 0 (length others.now) places.old grids.old others.now }
+    ensures { places.new ≡ others.now }
 {
-    let size = terminal.emu().grid().size();
-    let mut copy = Terminal::new(Grid::blank(alloc, size, BLANK)?);
+    for i in 0..others.len() {
+        let grid = grids[i].take();
+        put_place(&mut places[i], grid, &others[i]);
+    }
+}
+
+// The place becomes the other one, whose screen fits there or on the grid.
+fn put_place(place: &mut Option<Terminal>, grid: Option<Grid>, other: &Option<Terminal>)
+    requires { IsHeldBy place.old grid other.now }
+    ensures { place.new ≡ other.now }
+{
+    match other {
+        Some(terminal) => put_terminal(place, grid, terminal),
+        None => free(place),
+    }
+}
+
+// The terminal of the place becomes the other one, on the grid if there is one.
+fn put_terminal(place: &mut Option<Terminal>, grid: Option<Grid>, terminal: &Terminal)
+    requires { IsHeldBy place.old grid (Some terminal.now) }
+    ensures { place.new ≡ Some terminal.now }
+{
+    match grid {
+        Some(grid) => *place = Some(copy_on(grid, terminal)),
+        None => copy_terminal(place, terminal),
+    }
+}
+
+// A copy of the terminal on the grid, which has the size of its screen.
+fn copy_on(grid: Grid, terminal: &Terminal) -> Terminal
+    requires rows { grid.rows ≡ terminal.now.emu.state.grid.rows }
+    requires columns { grid.cols ≡ terminal.now.emu.state.grid.cols }
+    ensures { result ≡ terminal.now }
+{
+    let mut copy = Terminal::new(grid);
     copy.copy_from(terminal);
-    Ok(copy)
+    copy
 }
 
 impl Terminal {
