@@ -1,10 +1,10 @@
 """The files of the crates: what each holds, and what it defines. A part of dev/gen/crates_map.py.
 
 The sentence of a file is the first one of its head: lines `//!` of a source, lines `--` of definitions and lemmas. A
-source without a head has the sentence of its own type, or of its first item that has one. The names of a source are
-those of its types and constants; if it has no type but the one of its sentence, those of its functions that are public
-or the crate's; in a crate of tests, those of its tests. A file of definitions has all names that it defines, and a file
-of lemmas none.
+source without a head has the sentence of its own type, or of its first type, function or constant. The names of a
+source are those of its types and constants; if it has no type except the one of its sentence, those of its functions
+that are public or the crate's; in a crate of tests, those of its tests. A file of definitions has all names that it
+defines, and a file of lemmas none.
 """
 import re
 
@@ -51,7 +51,8 @@ def block(lines, mark):
 
 
 def documented(lines):
-    """Gives each item of a source that is documented: its name, with its type if it is a call of one, and the text."""
+    """Gives each item of a source that is documented: its rank among items, its name, with its type if it is a call of
+    one, and the text."""
     owner, text = "", []
     for line in lines:
         doc = DOC.match(line)
@@ -64,7 +65,8 @@ def documented(lines):
         owner = found[1] if found else "" if line[:1] == "}" else owner
         if item and text:
             name = f"{owner}::{item[2]}" if line[:1] == " " and owner else item[2]
-            yield name, " ".join(text).split("  ")[0]
+            rank = 0 if item[1] in TYPES else 1 if item[1] == "fn" else 2
+            yield rank, name, " ".join(text).split("  ")[0]
         text = text if not line.strip() else []
 
 
@@ -74,9 +76,9 @@ def sentence_of(path, text):
     head = block(lines, "--" if path.suffix == ".antt" else "//!")
     if head or path.suffix == ".antt":
         return first_sentence(head), ""
-    items = list(documented(lines))
-    own = [item for item in items if item[0].lower() == path.stem.replace("_", "")] or items[:1]
-    return (f"`{own[0][0]}`: {first_sentence(own[0][1])}", own[0][0]) if own else ("", "")
+    items = sorted(documented(lines), key=lambda item: item[0])
+    own = [item for item in items if item[1].lower() == path.stem.replace("_", "")] or items
+    return (f"`{own[0][1]}`: {first_sentence(own[0][2])}", own[0][1]) if own else ("", "")
 
 
 def names_of(path, text, told):
