@@ -30,9 +30,6 @@ REQUESTS_OTHERWISE = {
     "KDGETKEYCODE": "ok", "KDSETKEYCODE": "ok",  # (there is no keyboard there: ENODEV)
     "VT_DISALLOCATE": "ok",  # (of a console that isn't allocated)
 }  # fmt: skip
-# Programs whose output depends on font files: the recording was made where there are none.
-FONTS = pathlib.Path("/usr/share/consolefonts")
-OF_FONTS = ("setfont -v", "setfont -m none")
 HANDSHAKES = 1000
 # The paths that may lead to a console in front.
 PATHS = (
@@ -65,8 +62,6 @@ def check_real(check, place):
     check.holds(ran.status == 0 and len(here) == len(there), f"programs.sh ends with {ran.status}: {ran.err}")
     for (words, lines), (wanted_words, wanted) in zip(here, there):
         wanted = OTHERWISE.get(words, wanted)
-        if words in OF_FONTS and FONTS.is_dir():
-            continue
         check.holds(words == wanted_words and lines == wanted, f"{words}: {lines}, wanted {wanted}")
     check.holds(ran.is_legal(), "the journal of programs.sh isn't legal")
 
