@@ -9,7 +9,8 @@ import repository  # noqa: F401: it has the folders of the modules below
 from programs import TOP, find_for_check
 
 TESTS = TOP / "vtrun/tests"
-SECONDS = 60
+# The limit of vtrun, and that of a command. They are far longer than a run takes, also with many others beside it.
+LIMIT, SECONDS = 300, 400
 # The test programs, with what each needs besides a C compiler.
 PROGRAMS = {"server": [], "switches": [], "asks": [], "clients": ["-static", "-lpthread"], "fuzz": []}
 SEAT_CLIENT = "seat_client"
@@ -91,7 +92,7 @@ class Place:
 
     def words(self, *words):
         """vtrun's command line up to its command."""
-        return [self.folder / "vtrun", "--timeout", "40", *words, "--"]
+        return [self.folder / "vtrun", "--timeout", LIMIT, *words, "--"]
 
     def environment(self):
         """vtrun in PATH, and nothing that asks for another one."""

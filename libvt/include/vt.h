@@ -196,8 +196,14 @@ uint8_t vt_screen_set_colour(struct vt_screen *s, uint32_t number, uint8_t red, 
 /* Sets the user's table of characters (ESC ( K): a code for each byte. VT_NOTHING. */
 uint8_t vt_screen_set_user(struct vt_screen *s, const uint16_t words[256]);
 
+#ifdef __cplusplus
+#define VT_SIZE(n) static_cast<size_t>(n)
+#else
+#define VT_SIZE(n) ((size_t)(n))
+#endif
+
 /* The most bytes of the text of a redraw, for a screen of so many rows and columns. */
-#define VT_REDRAW_MOST(rows, cols) ((size_t)(rows) * (18 * (size_t)(cols) + 8) + 26 * (size_t)(cols) + 377)
+#define VT_REDRAW_MOST(rows, cols) (VT_SIZE(rows) * (18 * VT_SIZE(cols) + 8) + 26 * VT_SIZE(cols) + 377)
 
 /* The text that draws this screen on any terminal of its size that runs the sequences of console_codes(4) and waits for
  * no more of one. *length is how long it is, at VT_OK and VT_NO_ROOM. VT_NOT_DRAWABLE, VT_NO_MEMORY, VT_NOTHING,

@@ -1,4 +1,4 @@
-/* Each request for memory of a machine refused in turn, in a call of every kind.
+/* Each request for memory of a machine refused in turn, alone and with all that follow, in a call of every kind.
  *
  * A call that is refused memory returns VT_NO_MEMORY, and nothing is lost: the machine has its journal, its display, its
  * consoles and its waits as before, what was asked for is given back, and the same call, made again, is answered as it
@@ -207,6 +207,11 @@ static unsigned long try_other(uint8_t (*call)(void))
 int main(void)
 {
     unsigned long all = 0, most = 0;
+    goes_on = true;
+    for (int i = 0; i < TRIED_COUNT; i++)
+        try_call(&TRIED[i]);
+    try_other(make_machine), try_other(redraw), try_other(entry), try_other(journal);
+    goes_on = false;
     for (int i = 0; i < TRIED_COUNT; i++) {
         unsigned long requests = try_call(&TRIED[i]);
         all += requests, most = requests > most ? requests : most;

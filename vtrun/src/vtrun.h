@@ -129,6 +129,7 @@ ssize_t read_memory(pid_t pid, uint64_t at, void *to, size_t n);
 bool write_memory(pid_t pid, uint64_t at, const void *from, size_t n);
 bool read_text(pid_t pid, uint64_t at, char *to, size_t room);
 pid_t process_of(pid_t thread, uid_t *user);
+bool has_signal(pid_t thread);
 bool stat_fields(pid_t pid, int *session, unsigned *terminal);
 unsigned console_of_terminal(unsigned terminal);
 unsigned console_of_stat(dev_t device, ino_t inode);
@@ -178,6 +179,7 @@ void tell_event(unsigned kind, unsigned from, unsigned to);
 bool are_held(void);
 void settle_waits(void);
 void look_at_held(void);
+void look_at_signals(void);
 void break_wait(unsigned seat);
 bool is_breaking_wait(void);
 

@@ -1,5 +1,6 @@
 //! Whether the terminals of two machines are the same, and the copy of one machine's into the other.
-ghost use Rattle.std.specs.Prelude.{◌≡◌, IfOk, IsTrue, OnOk, length};
+ghost use Rattle.std.specs.Prelude.{◌≡◌, Some, IfOk, IsTrue, OnErr, OnOk, length};
+ghost use Rattle.vt_world.specs.Rooms.{HasRoom, HaveRoom};
 
 use crate::terminal::Terminal;
 use crate::terminals::Terminals;
@@ -16,11 +17,18 @@ impl Terminals {
         are_same_places(self.places.as_slice(), other.places.as_slice())
     }
 
-    /// Becomes the other. It takes memory only for screens of another size, or of consoles that have none.
+    /// Becomes the other. It takes memory only if the screens of this one aren't those of the same consoles
+    /// with the same sizes.
     pub(crate) fn copy_from(&mut self, alloc: Global, other: &Terminals) -> Result<(), NoMemory>
-        ensures { OnOk result (self.new ≡ other.now) }
+        ensures ok { OnOk result (self.new ≡ other.now) }
+        ensures err { OnErr result (self.new ≡ self.old) }
     {
-        copy_places(alloc, self.places.as_mut_slice(), other.places.as_slice())
+        if have_room(self.places.as_slice(), other.places.as_slice()) {
+            copy_places(self.places.as_mut_slice(), other.places.as_slice());
+            return Ok(());
+        }
+        self.places = copies_of(alloc, other.places.as_slice())?;
+        Ok(())
     }
 }
 
@@ -50,54 +58,81 @@ fn is_same_place(place: &Option<Terminal>, other: &Option<Terminal>) -> bool
     }
 }
 
-// All places become the others.
-fn copy_places(
-    alloc: Global,
-    places: &mut [Option<Terminal>],
-    others: &[Option<Terminal>],
-) -> Result<(), NoMemory>
-    requires { length places.old ≡ length others.now }
-    ensures { OnOk result (places.new ≡ others.now) }
+// Whether each of the others' screens fits at its place.
+fn have_room(places: &[Option<Terminal>], others: &[Option<Terminal>]) -> bool
+    requires { length places.now ≡ length others.now }
+    ensures { IsTrue result → HaveRoom places.now others.now (length others.now) }
 {
     for i in 0..others.len() {
-        copy_place(alloc, &mut places[i], &others[i])?;
+        if !has_room(&places[i], &others[i]) {
+            return false;
+        }
     }
-    Ok(())
+    true
 }
 
-// The place becomes the other one.
-fn copy_place(
-    alloc: Global,
-    place: &mut Option<Terminal>,
-    other: &Option<Terminal>,
-) -> Result<(), NoMemory>
-    ensures { OnOk result (place.new ≡ other.now) }
+// Whether the other's screen, if it has one, fits at the place.
+fn has_room(place: &Option<Terminal>, other: &Option<Terminal>) -> bool
+    ensures { IsTrue result → HasRoom place.now other.now }
+{
+    match (place, other) {
+        (Some(own), Some(terminal)) => own.has_size_of(terminal),
+        (_, None) => true,
+        (None, Some(_)) => false,
+    }
+}
+
+// All places become the others, whose screens fit.
+fn copy_places(places: &mut [Option<Terminal>], others: &[Option<Terminal>])
+    requires same { length places.old ≡ length others.now }
+    requires room { HaveRoom places.old others.now (length others.now) }
+    ensures { places.new ≡ others.now }
+{
+    for i in 0..others.len() {
+        copy_place(&mut places[i], &others[i]);
+    }
+}
+
+// The place becomes the other one, whose screen fits.
+fn copy_place(place: &mut Option<Terminal>, other: &Option<Terminal>)
+    requires { HasRoom place.old other.now }
+    ensures { place.new ≡ other.now }
 {
     match other {
-        Some(terminal) => copy_terminal(alloc, place, terminal),
-        None => {
-            *place = None;
-            Ok(())
-        }
+        Some(terminal) => copy_terminal(place, terminal),
+        None => *place = None,
     }
 }
 
-// The place gets a copy of the terminal.
-fn copy_terminal(
-    alloc: Global,
-    place: &mut Option<Terminal>,
-    terminal: &Terminal,
-) -> Result<(), NoMemory>
-    ensures { OnOk result (place.new ≡ Some terminal.now) }
+// The terminal of the place becomes the other one, whose screen fits.
+fn copy_terminal(place: &mut Option<Terminal>, terminal: &Terminal)
+    requires { HasRoom place.old (Some terminal.now) }
+    ensures { place.new ≡ Some terminal.now }
 {
     if let Some(own) = place {
-        if own.has_size_of(terminal) {
-            own.copy_from(terminal);
-            return Ok(());
-        }
+        own.copy_from(terminal);
     }
-    *place = Some(copy_of(alloc, terminal)?);
-    Ok(())
+}
+
+// Copies of all terminals at their places.
+fn copies_of(alloc: Global, others: &[Option<Terminal>]) -> Result<Vec<Option<Terminal>>, NoMemory>
+    ensures { IfOk result (λ places. places.items ≡ others.now) }
+{
+    let mut places = Vec::with_capacity(alloc, others.len())?;
+    for i in 0..others.len() {
+        places.push(copy_at(alloc, &others[i])?)?;
+    }
+    Ok(places)
+}
+
+// A copy of the terminal at a place, if there is one.
+fn copy_at(alloc: Global, other: &Option<Terminal>) -> Result<Option<Terminal>, NoMemory>
+    ensures { IfOk result (λ copy. copy ≡ other.now) }
+{
+    match other {
+        Some(terminal) => Ok(Some(copy_of(alloc, terminal)?)),
+        None => Ok(None),
+    }
 }
 
 // A copy of the terminal.
