@@ -1,10 +1,10 @@
 """The files of the crates: what each holds, and what it defines. A part of dev/gen/crates_map.py.
 
 The sentence of a file is the first one of its head: lines `//!` of a source, lines `--` of definitions and lemmas. A
-source without a head has the sentence of its own type, or of its first item that has one. The names of a source are
-those of its types; if it has none but the one of its sentence, those of its functions that are public or the crate's,
-or of its constants; in a crate of tests, those of its tests. A file of definitions has all names that it defines, and a
-file of lemmas none.
+source without a head has the sentence of its own type, or of its first type, function or constant. The names of a
+source are those of its types and constants; if it has no type except the one of its sentence, those of its functions
+that are public or the crate's; in a crate of tests, those of its tests. A file of definitions has all names that it
+defines, and a file of lemmas none.
 """
 import re
 
@@ -12,16 +12,16 @@ HEAD = """# The files of each crate
 
 Tables for each crate, in the order of [the map](README.md): its sources (`src/`), its definitions (`specs/`), which
 contracts cite, and its lemmas (`proofs/`, without the parts of functions: [Where a proof
-stands](../CONTRIBUTING.md#where-a-proof-stands)). A row has the sentence of the file, and names: the types, functions
-or constants of a source, the tests of a test's, and all that a file of definitions defines. Root files and lists of
-modules are left out.
+stands](../CONTRIBUTING.md#where-a-proof-stands)). A row has the sentence of the file, and names: the types and
+constants of a source, or its functions if it has no other type, the tests of a file of tests, and all that a file of
+definitions defines. Root files and lists of modules are left out.
 """
 SKIPPED = {"lib.rt", "Lib.antt", "for_laws.antt"}
 TYPES = {"struct", "enum", "trait", "union"}
 OPEN = r"pub(?:\(\w+\))? "
 ITEM = re.compile(rf"(?:{OPEN})?(?:const |unsafe |extern \"C\" )*({'|'.join(TYPES)}|fn|const|static|type) (\w+)")
 CALL = re.compile(rf"(?:    )?{OPEN}(?:const |unsafe |extern \"C\" )*fn (\w+)")
-CONSTANT = re.compile(rf"{OPEN}const (\w+)")
+CONSTANT = re.compile(rf"(?:{OPEN})?(?:const|static) (\w\w+)")
 TEST = re.compile(r"#\[test\]\n(?:#\[.*\n)*fn (\w+)")
 OWNER = re.compile(r"impl(?:<[^>]*>)? (?:[\w:<>]+ for )?(\w+)")
 DOC = re.compile(r"\s*/// ?(.*)")
@@ -51,7 +51,8 @@ def block(lines, mark):
 
 
 def documented(lines):
-    """Gives each item of a source that is documented: its name, with its type if it is a call of one, and the text."""
+    """Gives each item of a source that is documented: its rank among items, its name, with its type if it is a call of
+    one, and the text."""
     owner, text = "", []
     for line in lines:
         doc = DOC.match(line)
@@ -64,7 +65,8 @@ def documented(lines):
         owner = found[1] if found else "" if line[:1] == "}" else owner
         if item and text:
             name = f"{owner}::{item[2]}" if line[:1] == " " and owner else item[2]
-            yield name, " ".join(text).split("  ")[0]
+            rank = 0 if item[1] in TYPES else 1 if item[1] == "fn" else 2
+            yield rank, name, " ".join(text).split("  ")[0]
         text = text if not line.strip() else []
 
 
@@ -74,9 +76,9 @@ def sentence_of(path, text):
     head = block(lines, "--" if path.suffix == ".antt" else "//!")
     if head or path.suffix == ".antt":
         return first_sentence(head), ""
-    items = list(documented(lines))
-    own = [item for item in items if item[0].lower() == path.stem.replace("_", "")] or items[:1]
-    return (f"`{own[0][0]}`: {first_sentence(own[0][1])}", own[0][0]) if own else ("", "")
+    items = sorted(documented(lines), key=lambda item: item[0])
+    own = [item for item in items if item[1].lower() == path.stem.replace("_", "")] or items
+    return (f"`{own[0][1]}`: {first_sentence(own[0][2])}", own[0][1]) if own else ("", "")
 
 
 def names_of(path, text, told):
@@ -90,7 +92,7 @@ def names_of(path, text, told):
         found = names(DEFINED)
     else:
         types = [item[2] for line in lines if (item := ITEM.match(line)) and item[1] in TYPES and item[2] != told]
-        found = TEST.findall(text) or types or names(CALL) or names(CONSTANT)
+        found = TEST.findall(text) or [*names(CONSTANT), *(types or names(CALL))]
     return ", ".join(f"`{name}`" for name in dict.fromkeys(found) if name != told)
 
 
