@@ -16,7 +16,8 @@ usage: check_c.py [--library OUT | --gate] [--vt PROGRAM] [--only CHECK,..] [--a
   are those that redraws make on another screen; the changed rows are those that differ from the mark.
 - `memory`: each request for memory refused, alone and with all that follow. `threads`: handles that go between
   threads, and eight threads that read one handle at once, under helgrind too.
-- `keys`, `faults`: random runs of keys (1,000, or --runs) are typed as `vt type` does; faults of keymaps are those of `vt keys`.
+- `keys`, `consoles`, `faults`: random runs of keys (1,000, or --runs) are typed as `vt type` does, and 200 over several
+  consoles with their key states and modes as `vt play` does; faults of keymaps are those of `vt keys`.
 - `terminal`: libvt/examples/term.c on a pseudo-terminal. `programs`: vim, less, htop, dialog and mc in it, in tmux.
 - `python`, `rust`: the tests of the bindings. `fuzz`: the fuzzer's corpus (libvt/tools/fuzz_c.sh looks for more).
 - `install`: tools/install.sh into a folder, and programs that are linked by pkg-config there, with the shared object
@@ -282,6 +283,7 @@ CHECKS = {
     "memory": check_memory,
     "threads": check_threads,
     "keys": typed.check_keys,
+    "consoles": typed.check_consoles,
     "faults": typed.check_faults,
     "machines": machines.check_machines,
     "terminal": lambda bench: terminal.check_terminal(bench, binding(bench)),
