@@ -4,8 +4,8 @@
 usage: check_c.py [--library OUT | --gate] [--vt PROGRAM] [--only CHECK,..] [--add-interface] [--runs N] [--sessions N]
 
 - `header`: vt.h is C99 to C2x and C++11 to C++23, by the compilers cc, c++, clang and clang++, also after <term.h>, and
-  has each line of libvt/src/interface.txt; the library has the calls of vt.h and no other symbol; the Python package
-  has its layout.
+  has each line of libvt/src/interface.txt; the library has the calls of vt.h and no other symbol, and vt(3) their
+  prototypes; the Python package has its layout.
 - `codes`: each code of each call, plainly, with sanitizers, and under valgrind without a leak.
 - `machines`: N generated sessions (300) are called one by one on a machine: the journal, the screens, the display and
   the queues are those of `vt play`, byte for byte. And calls in any order: `watch free` finds their journal legal.
@@ -16,7 +16,8 @@ usage: check_c.py [--library OUT | --gate] [--vt PROGRAM] [--only CHECK,..] [--a
   are those that redraws make on another screen; the changed rows are those that differ from the mark.
 - `memory`: each request for memory refused, alone and with all that follow. `threads`: handles that go between
   threads, and eight threads that read one handle at once, under helgrind too.
-- `keys`, `faults`: random runs of keys (1,000, or --runs) are typed as `vt type` does; faults of keymaps are those of `vt keys`.
+- `keys`, `consoles`, `faults`: random runs of keys (1,000, or --runs) are typed as `vt type` does, and 200 over several
+  consoles with their key states and modes as `vt play` does; faults of keymaps are those of `vt keys`.
 - `terminal`: libvt/examples/term.c on a pseudo-terminal. `programs`: vim, less, htop, dialog and mc in it, in tmux.
 - `python`, `rust`: the tests of the bindings. `fuzz`: the fuzzer's corpus (libvt/tools/fuzz_c.sh looks for more).
 - `install`: tools/install.sh into a folder, and programs that are linked by pkg-config there, with the shared object
@@ -128,6 +129,9 @@ def check_header(bench):
         bench.holds(not found, "the interface of libvt.so.1 is that of the file:\n" + "\n".join(found))
         listed = set(interface.package_calls())
         bench.holds(listed == calls, f"debian/libvt1.symbols has the calls of vt.h: {sorted(listed ^ calls)}")
+    synopsis, header = interface.prototypes_of_manual(), interface.prototypes_of_header()
+    differing = sorted(set(synopsis) ^ set(header))
+    bench.holds(sorted(synopsis) == sorted(header), f"the synopsis of vt(3) has the calls of vt.h: {differing}")
     version = re.search(r'^\.Os "vt (\d+)\.(\d+)\.(\d+)"$', (TOP / "man/vt.3").read_text(encoding="utf-8"), re.M)
     wanted = int(version[1]) << 16 | int(version[2]) << 8 | int(version[3])
     bench.holds(f"#define VT_VERSION {wanted:#08x}\n" in HEADER.read_text(encoding="utf-8"), "VT_VERSION is that of vt(3)")
@@ -282,6 +286,7 @@ CHECKS = {
     "memory": check_memory,
     "threads": check_threads,
     "keys": typed.check_keys,
+    "consoles": typed.check_consoles,
     "faults": typed.check_faults,
     "machines": machines.check_machines,
     "terminal": lambda bench: terminal.check_terminal(bench, binding(bench)),
