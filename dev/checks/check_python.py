@@ -33,7 +33,7 @@ import repository  # noqa: E402,F401: it has the folders of the modules below
 from browser import installed  # noqa: E402
 from package import FOLDER, TOP  # noqa: E402
 
-SECONDS, WORKERS, LIMIT = 900, 8, 30
+SECONDS, WORKERS, LIMIT = 3000, 8, 100
 LIBRARY = TOP / "out/c/lib/libvt.so.1"
 LIVE = TOP / "examples/tests/live"
 USE = """
