@@ -39,7 +39,7 @@ from programs import find_for_check  # noqa: E402
 
 TOOLS, TESTS = TOP / "tools", TOP / "examples/tests"
 GUIDES = [f"docs/guide/{name}.md" for name in ("test-a-terminal-program", "from-pyte-and-pexpect", "from-libvterm")]
-SECONDS = 60
+SECONDS = 400
 # pyte draws vttest's frame otherwise than vttest's own text describes it.
 DRAWN_OTHERWISE = ["vttest.test:13: ?screen"]
 

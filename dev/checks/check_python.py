@@ -35,7 +35,7 @@ from browser import installed  # noqa: E402
 from check_picture import pixels_of  # noqa: E402
 from package import FOLDER, TOP  # noqa: E402
 
-SECONDS, WORKERS, LIMIT = 900, 8, 30
+SECONDS, WORKERS, LIMIT = 3000, 8, 100
 LIBRARY = TOP / "out/c/lib/libvt.so.1"
 LIVE = TOP / "examples/tests/live"
 USE = """
