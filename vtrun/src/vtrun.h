@@ -79,6 +79,7 @@ struct console {
     int descriptor;       /* of the pump that holds the console open in the machine, or -1 */
     uint8_t input[MOST_WRITE];
     size_t input_length;  /* what came from the machine's queue, and the pty has no room for yet */
+    bool is_given;        /* whether the pty got input since `hand_over` */
 };
 extern struct console consoles[CONSOLES];
 extern uint64_t unsure;                       /* consoles that a program may have opened meanwhile, as bits */
@@ -87,6 +88,7 @@ bool read_output(unsigned n);
 void read_all_outputs(void);
 void write_input(unsigned n);
 void write_all_input(void);
+void hand_over(void);
 void look_at_console(unsigned n);
 int open_slave(unsigned n, int flags);
 void set_size(unsigned n);
