@@ -95,6 +95,7 @@ static struct vt_machine m;
 static struct vt_reply reply;
 static uint8_t bytes[ROOM], text[TEXT];
 static size_t length;
+static struct vt_cell blanks[36];
 
 /* All that can be read of a machine. */
 struct view {
@@ -178,6 +179,10 @@ static uint8_t make_machine(void)
 }
 
 static uint8_t redraw(void) { return vt_machine_redraw(&m, 1, text, TEXT, &length); }
+static uint8_t near(void) { return vt_machine_redraw_near(&m, 1, text, TEXT, &length); }
+static uint8_t changes(void) { return vt_machine_redraw_changes(&m, 1, blanks, 36, 9, text, TEXT, &length); }
+static uint8_t changes_near(void) { return vt_machine_redraw_changes_near(&m, 1, blanks, 36, 9, text, TEXT, &length); }
+static uint8_t picture(void) { return vt_machine_picture(&m, 1, text, TEXT, &length); }
 static uint8_t entry(void) { return vt_machine_entry(&m, 2, text, TEXT, &length); }
 static uint8_t journal(void) { return vt_machine_journal(&m, text, TEXT, &length); }
 
@@ -216,8 +221,10 @@ int main(void)
         unsigned long requests = try_call(&TRIED[i]);
         all += requests, most = requests > most ? requests : most;
     }
-    printf("requests: new %lu, redraw %lu, entry %lu, journal %lu; %d calls %lu, at most %lu\n", try_other(make_machine),
-           try_other(redraw), try_other(entry), try_other(journal), TRIED_COUNT, all, most);
+    printf("requests: new %lu, redraw %lu, redraw_changes %lu, redraw_near %lu, redraw_changes_near %lu, picture %lu, "
+           "entry %lu, journal %lu; %d calls %lu, at most %lu\n", try_other(make_machine), try_other(redraw),
+           try_other(changes), try_other(near), try_other(changes_near), try_other(picture), try_other(entry),
+           try_other(journal), TRIED_COUNT, all, most);
     WANT(blocks == 0 && m.at == NULL);
     return ended();
 }
