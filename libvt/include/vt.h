@@ -86,10 +86,10 @@ struct vt_out {
     uint32_t spare[3];
 };
 
-/* How many bytes a feed took, and how many places of `outs` it wrote. */
+/* How many bytes a feed took, how many places of `outs` it wrote, and how many rows fell out (vt_screen_feed_rows). */
 struct vt_fed {
-    size_t taken, outs;
-    size_t spare[2];
+    size_t taken, outs, rows;
+    size_t spare[1];
 };
 
 /* Codes of cells that are no characters. 0xF000 to 0xF0FF are the places 0 to 255 of the console's font, which the null
@@ -153,6 +153,15 @@ void vt_screen_free(struct vt_screen *s);
  * there is one. VT_NOTHING. */
 uint8_t vt_screen_feed(struct vt_screen *s, const uint8_t *bytes, size_t n, struct vt_out *outs, size_t room,
                        struct vt_fed *fed);
+
+/* Draws a text as vt_screen_feed does, and gives the rows that fall out at the top: by a line feed, or a character that
+ * goes to the next row, in the last row of a region that begins with the screen's first row. What is deleted or erased,
+ * and what a resize loses, doesn't fall out. fed->rows is how many rows fell out; their cells, row by row, are the
+ * first fed->rows * cols of `cells`, and the other places stay. Nothing is lost: a byte moves two rows out at most, and
+ * the call also ends when fewer than two have room. `room` is for side effects, `cells_room` for cells. VT_NO_ROOM
+ * (fewer than two rows have room; nothing was drawn), VT_NOTHING. */
+uint8_t vt_screen_feed_rows(struct vt_screen *s, const uint8_t *bytes, size_t n, struct vt_out *outs, size_t room,
+                            struct vt_cell *cells, size_t cells_room, struct vt_fed *fed);
 
 /* Draws a whole text, and drops what it asks for. VT_NOTHING. */
 uint8_t vt_screen_write(struct vt_screen *s, const uint8_t *bytes, size_t n);

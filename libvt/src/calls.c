@@ -15,6 +15,8 @@
 /* The proved calls that want pointers that aren't null. */
 uint8_t vt_nonnull_screen_feed(struct vt_screen *s, const uint8_t *bytes, size_t n, struct vt_out *outs, size_t room,
                                struct vt_fed *fed);
+uint8_t vt_nonnull_screen_feed_rows(struct vt_screen *s, const uint8_t *bytes, size_t n, struct vt_out *outs,
+                                    size_t room, struct vt_cell *cells, size_t cells_room, struct vt_fed *fed);
 uint8_t vt_nonnull_screen_write(struct vt_screen *s, const uint8_t *bytes, size_t n);
 uint8_t vt_nonnull_keys_new(struct vt_keys *k, const uint8_t *text, size_t n, const struct vt_text *texts, size_t count,
                             struct vt_fault *fault);
@@ -83,6 +85,13 @@ uint8_t vt_screen_feed(struct vt_screen *s, const uint8_t *bytes, size_t n, stru
                        struct vt_fed *fed)
 {
     return vt_nonnull_screen_feed(s, read_at(bytes), n, written_at(outs), room, fed);
+}
+
+uint8_t vt_screen_feed_rows(struct vt_screen *s, const uint8_t *bytes, size_t n, struct vt_out *outs, size_t room,
+                            struct vt_cell *cells, size_t cells_room, struct vt_fed *fed)
+{
+    return vt_nonnull_screen_feed_rows(s, read_at(bytes), n, written_at(outs), room, written_at(cells), cells_room,
+                                       fed);
 }
 
 uint8_t vt_screen_write(struct vt_screen *s, const uint8_t *bytes, size_t n)

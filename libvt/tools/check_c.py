@@ -171,7 +171,7 @@ def compare_layout(bench, lines):
 
 
 def check_codes(bench):
-    for name in ("screen_codes", "keys_codes", "machine_codes", "machine_starts"):
+    for name in ("screen_codes", "rows", "keys_codes", "machine_codes", "machine_starts"):
         plain = bench.compiled(name, [TESTS / f"{name}.c"])
         sanitized = bench.compiled(f"{name}.san", [TESTS / f"{name}.c"], SANITIZERS)
         if plain and sanitized:

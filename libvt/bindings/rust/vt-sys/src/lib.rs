@@ -92,7 +92,8 @@ pub struct vt_out {
 pub struct vt_fed {
     pub taken: usize,
     pub outs: usize,
-    pub spare: [usize; 2],
+    pub rows: usize,
+    pub spare: [usize; 1],
 }
 
 #[repr(C)]
@@ -309,6 +310,16 @@ extern "C" {
         n: usize,
         outs: *mut vt_out,
         room: usize,
+        fed: *mut vt_fed,
+    ) -> u8;
+    pub fn vt_screen_feed_rows(
+        s: *mut vt_screen,
+        bytes: *const u8,
+        n: usize,
+        outs: *mut vt_out,
+        room: usize,
+        cells: *mut vt_cell,
+        cells_room: usize,
         fed: *mut vt_fed,
     ) -> u8;
     pub fn vt_screen_write(s: *mut vt_screen, bytes: *const u8, n: usize) -> u8;
