@@ -22,8 +22,9 @@ class Absent(Exception):
 
 
 def command(words, **how):
-    """Runs a command to its end."""
+    """Runs a command to its end. Its output may have any bytes, as the words of random requests have."""
     how = {"stdin": subprocess.DEVNULL, "capture_output": True, "text": True, "timeout": SECONDS, "check": False, **how}
+    how.setdefault("errors", "replace")
     if "input" in how:
         del how["stdin"]
     return subprocess.run([str(word) for word in words], **how)

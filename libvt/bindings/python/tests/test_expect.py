@@ -185,13 +185,20 @@ class Casts(unittest.TestCase):
         self.assertIn("@keyframes r0{0%{transform:translateY(0px)}60%{transform:translateY(-30px)}}", ran.stdout)
         self.assertIn("@keyframes r1{0%{transform:translateY(0px)}20%{transform:translateY(-30px)}}", ran.stdout)
         self.assertNotIn("@keyframes r2", ran.stdout)
+        self.assertIn("<g id='r0' style='transform:translateY(-30px)'>", ran.stdout)
+        # Each background covers one pixel below its row, so that no line is seen between rows in a larger picture.
+        self.assertEqual(set(re.findall(r"<rect x=.* height='(\d+)' fill", ran.stdout)), {"16"})
+        ran = run("animation", "--still", "1", "a.cast", folder=self.folder)
+        self.assertIn("<g id='r0' style='transform:translateY(0px)'>", ran.stdout)
+        self.assertIn("<g id='r1' style='transform:translateY(-30px)'>", ran.stdout)
         ran = run("animation", "--at", "5", "a.cast", folder=self.folder)
         with Screen(3, 9) as screen:
             screen.write(b"one\r\n\x1b[31mtwo")
             self.assertEqual(ran.stdout, screen.picture())
         (self.folder / "b.cast").write_text("{", encoding="utf-8")
         for words, wanted in (
-            (["--at", "x", "a.cast"], "wanted seconds"), (["--size", "0", "1", "a.cast"], "wanted rows"),
+            (["--at", "x", "a.cast"], "wanted seconds"), (["--still", "", "a.cast"], "wanted seconds"),
+            (["--size", "0", "1", "a.cast"], "wanted rows"),
             (["b.cast"], "b.cast:1: wanted JSON"), (["c.cast"], "c.cast: No such file"),
         ):  # fmt: skip
             ran = run("animation", *words, folder=self.folder)
