@@ -140,7 +140,7 @@ void write_all_input(void)
             write_input(n);
 }
 
-/* The kernel hands on what a pty got when it has time, but a poll of its slave waits for that: then programs have it. */
+/* The kernel hands on what a pty got when it has time. A poll of its slave waits for that: then programs have it. */
 void hand_over(void)
 {
     for (unsigned n = 1; n < CONSOLES; n++) {

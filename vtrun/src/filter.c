@@ -92,8 +92,8 @@ static int put_filter(unsigned long flags)
 
 /* Puts the filter on this process and all that come from it. Its listener, or -1.
  *
- * From Linux 5.19 on no signal but SIGKILL takes a process away from a call that was received: so each answer reaches
- * it, and no call is made twice. */
+ * From Linux 5.19 on no signal except SIGKILL ends a call that was received: so each answer reaches its process, and no
+ * call is made twice. */
 int install_filter(void)
 {
     unsigned long flags = SECCOMP_FILTER_FLAG_WAIT_KILLABLE_RECV;

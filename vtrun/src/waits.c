@@ -103,7 +103,7 @@ void break_wait(unsigned seat)
             drop(i);
 }
 
-/* A request whose process was killed is no longer there (before Linux 5.19 also one that a signal interrupted): its wait
+/* A request whose process was killed is no longer there, and before Linux 5.19 one that a signal interrupted: its wait
  * ends, before the process asks again. */
 void look_at_held(void)
 {

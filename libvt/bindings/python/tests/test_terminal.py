@@ -94,7 +94,8 @@ class Waiting(unittest.TestCase):
             self.fails("returned None", it.wait_for, lambda screen: None, 0.1)
 
     def test_a_moment_is_not_enough(self):
-        with shell("printf flash; sleep 0.1; printf '\\rother'; read x") as it, mock.patch("libvt.terminal.PATIENCE", LIMIT):
+        script = "printf flash; sleep 0.1; printf '\\rother'; read x"
+        with shell(script) as it, mock.patch("libvt.terminal.PATIENCE", LIMIT):
             self.fails("wasn't shown within 3 s", it.wait_for, "flash", 3)
 
     def test_an_end_ends_a_wait(self):
