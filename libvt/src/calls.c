@@ -52,7 +52,14 @@ uint8_t vt_lent_machine_wait(struct vt_machine *loan, uint32_t caller, uint8_t *
 uint8_t vt_lent_machine_display(struct vt_machine *loan, struct vt_display *display);
 uint8_t vt_lent_machine_console(struct vt_machine *loan, uint32_t n, struct vt_console *console);
 uint8_t vt_lent_machine_row(struct vt_machine *loan, uint32_t n, uint32_t row, struct vt_cell *cells, size_t room);
+uint8_t vt_lent_machine_cells(struct vt_machine *loan, uint32_t n, struct vt_cell *cells, size_t room);
 uint8_t vt_lent_machine_redraw(struct vt_machine *loan, uint32_t n, uint8_t *text, size_t room, size_t *length);
+uint8_t vt_lent_machine_redraw_changes(struct vt_machine *loan, uint32_t n, const struct vt_cell *shown, size_t count,
+                                       uint32_t cols, uint8_t *text, size_t room, size_t *length);
+uint8_t vt_lent_machine_redraw_near(struct vt_machine *loan, uint32_t n, uint8_t *text, size_t room, size_t *length);
+uint8_t vt_lent_machine_redraw_changes_near(struct vt_machine *loan, uint32_t n, const struct vt_cell *shown,
+                                            size_t count, uint32_t cols, uint8_t *text, size_t room, size_t *length);
+uint8_t vt_lent_machine_picture(struct vt_machine *loan, uint32_t n, uint8_t *text, size_t room, size_t *length);
 uint8_t vt_lent_machine_entry(struct vt_machine *loan, uint32_t index, uint8_t *text, size_t room, size_t *length);
 uint8_t vt_lent_machine_journal(struct vt_machine *loan, uint8_t *text, size_t room, size_t *length);
 
@@ -257,10 +264,42 @@ uint8_t vt_machine_row(const struct vt_machine *m, uint32_t n, uint32_t row, str
     return vt_lent_machine_row(&loan, n, row, written_at(cells), room);
 }
 
+uint8_t vt_machine_cells(const struct vt_machine *m, uint32_t n, struct vt_cell *cells, size_t room)
+{
+    struct vt_machine loan = *m;
+    return vt_lent_machine_cells(&loan, n, written_at(cells), room);
+}
+
 uint8_t vt_machine_redraw(const struct vt_machine *m, uint32_t n, uint8_t *text, size_t room, size_t *length)
 {
     struct vt_machine loan = *m;
     return vt_lent_machine_redraw(&loan, n, written_at(text), room, length);
+}
+
+uint8_t vt_machine_redraw_changes(const struct vt_machine *m, uint32_t n, const struct vt_cell *shown, size_t count,
+                                  uint32_t cols, uint8_t *text, size_t room, size_t *length)
+{
+    struct vt_machine loan = *m;
+    return vt_lent_machine_redraw_changes(&loan, n, read_at(shown), count, cols, written_at(text), room, length);
+}
+
+uint8_t vt_machine_redraw_near(const struct vt_machine *m, uint32_t n, uint8_t *text, size_t room, size_t *length)
+{
+    struct vt_machine loan = *m;
+    return vt_lent_machine_redraw_near(&loan, n, written_at(text), room, length);
+}
+
+uint8_t vt_machine_redraw_changes_near(const struct vt_machine *m, uint32_t n, const struct vt_cell *shown,
+                                       size_t count, uint32_t cols, uint8_t *text, size_t room, size_t *length)
+{
+    struct vt_machine loan = *m;
+    return vt_lent_machine_redraw_changes_near(&loan, n, read_at(shown), count, cols, written_at(text), room, length);
+}
+
+uint8_t vt_machine_picture(const struct vt_machine *m, uint32_t n, uint8_t *text, size_t room, size_t *length)
+{
+    struct vt_machine loan = *m;
+    return vt_lent_machine_picture(&loan, n, written_at(text), room, length);
 }
 
 uint8_t vt_machine_entry(const struct vt_machine *m, uint32_t index, uint8_t *text, size_t room, size_t *length)

@@ -30,7 +30,7 @@ calls_from_end table set s high =
     ap (λ n. filter_map (λ i. act_call (act_at table set i)) (range_with_len s n)) none
 
 -- if the set has no signal in a range, the calls from the range's start on are those from its end on
-calls_from_until : (k : ℕ) (table : List Act) (set s : ℕ) → s + k ≤ 65
+pub calls_from_until : (k : ℕ) (table : List Act) (set s : ℕ) → s + k ≤ 65
     → ((t : ℕ) → s ≤ t → t < s + k → has_signal set t ≡ false)
     → calls_from table set (s + k) ≡ calls_from table set s
 calls_from_until zero table set s within none = ap (calls_from table set) (omega arith)

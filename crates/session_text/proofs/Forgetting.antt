@@ -1,12 +1,12 @@
 -- What a walk can forget: the calls that are left stay.
-use Rattle.std.proofs.Common.{◌≡◌, true, List, [], Option, cond, drop, lit≤, sym, ap, ◌∙◌, subst}
+use Rattle.std.proofs.Common.{◌≡◌, ℕ, ◌≤◌, true, List, Option, cond, drop, sym, ap, ◌∙◌, subst}
 use Rattle.sig_hooks.specs.declared.act.Act.{Act}
 use Rattle.vt_events.specs.declared.event.Event.{Event}
 use Rattle.vt_events.specs.declared.event.Event.TheVariants as event
-use Rattle.session_text.proofs.Acts.{calls_from_end}
+use Rattle.session_text.proofs.LeftSignals.{calls_left}
 use Rattle.session_text.specs.Items.{Listed}
 use Rattle.session_text.specs.Programs.{Call, all_calls, calls, calls_from, nothing, script, takes}
-use Rattle.session_text.specs.Walks.{Place, Stands, ahead, rest_of_calls}
+use Rattle.session_text.specs.Walks.{AreLeft, Place, Stands, ahead, rest_of_calls}
 use Rattle.session_text.specs.declared.program.Program.{Program}
 use Rattle.session_text.specs.declared.program.Program.TheVariants as program
 
@@ -22,14 +22,14 @@ over_stays p w moved made over still stands = record {
 }
 
 -- signals without an act that is left
-pub signals_go : (items : Listed) (table : List Act) (w moved : Place) (made : List Call)
-    → moved ≡ record w { given = 0; signal = 65 } → calls_from table w.given w.signal ≡ []
+pub signals_go : (items : Listed) (table : List Act) (w moved : Place) (given : ℕ) (made : List Call) → 1 ≤ w.signal
+    → moved ≡ record w { given = given; signal = 1 } → AreLeft table w.given w.signal given
     → Stands (program.Script items table) w made → Stands (program.Script items table) moved made
-signals_go items table w moved made is none stands =
+signals_go items table w moved given made low is are stands =
     let left : List Event → List Call → Option Event = λ acts.
     cond w.taking (takes table) (all_calls acts) (script table (drop w.item items.events)) in
-    let same : calls_from table w.given w.signal ≡ calls_from table 0 65 =
-    none ∙ sym (calls_from_end table 0 65 (lit≤ tt)) in
+    let same : calls_from table w.given w.signal ≡ calls_from table given 1 =
+    sym (calls_left table w.given w.signal given low are) in
     subst (λ (x : Place). Stands (program.Script items table) x made) (sym is)
     (record {
       same = λ more.

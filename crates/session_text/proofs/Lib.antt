@@ -8,6 +8,7 @@ pub mod HookWords
 pub mod Hooking
 pub mod ItemWords
 pub mod KeyTyping
+mod LeftSignals
 pub mod MadeSession
 pub mod NextCalls
 pub mod Saying

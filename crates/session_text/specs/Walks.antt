@@ -1,10 +1,11 @@
 -- The place of a walk through a program.
-use Rattle.std.specs.Prelude.{◌≡◌, ℕ, Bool, Option, Some, List, [], ◌∷◌, ◌++◌, drop, if◌then◌else◌}
+use Rattle.std.specs.Prelude.{◌≡◌, ℕ, ◌≤◌, ◌<◌, Bool, true, false, is_some, Option, Some, List, [], ◌∷◌, ◌++◌, drop, if◌then◌else◌}
 use Rattle.sig_hooks.specs.declared.act.Act.{Act}
+use Rattle.vt_base.specs.Signals.{has_signal}
 use Rattle.vt_events.specs.declared.event.Event.{Event}
 use Rattle.vt_events.specs.declared.event.Event.TheVariants as event
 use Rattle.vt_events.specs.declared.reply.Reply.{Reply}
-use Rattle.session_text.specs.Programs.{Call, all_calls, call, calls, calls_from, next, nothing, scans, script, takes}
+use Rattle.session_text.specs.Programs.{Call, act_at, act_call, all_calls, call, calls, calls_from, next, nothing, scans, script, takes}
 use Rattle.session_text.specs.declared.program.Program.{Program}
 use Rattle.session_text.specs.declared.program.Program.TheVariants as program
 
@@ -54,3 +55,18 @@ Advances p w r moved = Moves (ahead p w) p r moved
 abbrev pub HasActs : Program → List Act → Type 0
 HasActs (program.Keys bytes) table = ⊥
 HasActs (program.Script items acts) table = acts ≡ table
+
+-- `left` has those of the given signals from one on whose acts make calls
+pub record AreLeft (table : List Act) (given from left : ℕ) : Type 0 where
+  pub these : (s : ℕ) → from ≤ s → s ≤ 64 → has_signal left s ≡ is_some (act_call (act_at table given s))
+  pub others : (s : ℕ) → 1 ≤ s → s < from → has_signal left s ≡ false
+
+-- the place of every walk that is over and forgot what it can
+abbrev pub end_place : Place
+end_place = record { item = 0; taking = false; given = 0; signal = 65; waiting = false; over = true }
+
+-- a walk that isn't over keeps, of the signals that were given, those with an act that is left
+abbrev pub KeepsLeft : Program → Place → Place → Type 0
+KeepsLeft (program.Keys bytes) old new = new ≡ old
+KeepsLeft (program.Script items table) old new =
+    AreLeft table old.given old.signal new.given × (new ≡ record old { given = new.given; signal = 1 })

@@ -1,11 +1,13 @@
 //! The acts that are left of the signals that a process was given.
-ghost use Rattle.std.specs.Prelude.{◌≡◌, ◌≢◌, ◌+◌, ◌≤◌, None, [], ◌++◌, IfOk, IfSome, IfNone, is_none, option_to_list};
+ghost use Rattle.std.specs.Prelude.{◌≡◌, ◌≢◌, ◌+◌, ◌≤◌, None, [], ◌++◌, IfOk, IfSome, IfNone, is_none, option_to_list, if◌then◌else◌};
 ghost use Rattle.session_text.specs.Programs.{act_call, calls_from};
+ghost use Rattle.session_text.specs.Walks.{AreLeft};
+ghost use Rattle.vt_base.specs.Signals.{with_signal};
 
 use crate::asks::Asks;
 use sig_hooks::Act;
 use std::alloc::Global;
-use vt_base::{Bytes, NoMemory, SigSet};
+use vt_base::{Bytes, NoMemory, SigSet, Signal, with_adds_one};
 use vt_events::Event;
 
 /// An act, and the signal at which it is made.
@@ -52,6 +54,35 @@ pub(crate) fn first_act<H: Asks>(hooks: &H, given: SigSet, from: u16) -> Option<
         at = signal.get() + 1;
     }
     None
+}
+
+/// The signals of the set from one on whose acts make calls.
+pub(crate) fn signals_left<H: Asks>(hooks: &H, given: SigSet, from: u16) -> SigSet
+    requires { 1 ≤ from }
+    ensures { AreLeft (H.acts hooks.now) given from result }
+{
+    with_adds_one();
+    let mut left = SigSet::empty();
+    let mut at = from;
+    while at <= 64 {
+        let Some(signal) = given.first_from(at) else {
+            return left;
+        };
+        left = with_call(left, signal, hooks.ask_for(signal));
+        at = signal.get() + 1;
+    }
+    left
+}
+
+// The set with the signal, if its act makes a call.
+fn with_call(set: SigSet, signal: Signal, act: Act) -> SigSet
+    ensures { result ≡ (if is_none (act_call act) then set else with_signal set signal) }
+{
+    if is_nothing(act) {
+        set
+    } else {
+        set.with(signal)
+    }
 }
 
 fn is_nothing(act: Act) -> bool

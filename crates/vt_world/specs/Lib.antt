@@ -9,6 +9,7 @@ pub mod Lent
 pub mod RefusalLaws
 pub mod Refusals
 pub mod Rights
+pub mod Rooms
 pub mod Rows
 pub mod Spare
 pub mod Start

@@ -1,5 +1,6 @@
 -- The machine as a whole.
 use Rattle.std.specs.Prelude.{◌≡◌, ℕ, Bool, List, Option, is_some, map}
+use Rattle.key_tables.specs.Tables.{Tables}
 use Rattle.vt_procs.specs.Callers.{Callers, caller_at}
 use Rattle.vt_procs.specs.Tickets.{is_open}
 use Rattle.vt_switch.specs.Display.{Display}
@@ -28,6 +29,10 @@ pub record WorldState : Type 0 where
   pub inputs : List Input
   pub board : KeyboardSet
   pub trace : Trace
+
+-- the machine with other key tables
+abbrev pub with_tables : Tables → WorldState → WorldState
+with_tables tables w = record w { board = record w.board { tables = tables } }
 
 -- the display, and which callers are alive
 abbrev pub core_of : Display → Callers → Core

@@ -1,12 +1,13 @@
 //! Whether two walks are at the same place, the copy of one into the other, and what a walk can forget.
+ghost use Rattle.std.specs.Bool.{OnFalse, OnTrue};
 ghost use Rattle.std.specs.Prelude.{◌≡◌, IsTrue, List};
 ghost use Rattle.session_text.specs.Items.{Listed};
 ghost use Rattle.session_text.specs.Programs.{Call};
-ghost use Rattle.session_text.specs.Walks.{Stands};
+ghost use Rattle.session_text.specs.Walks.{AreLeft, KeepsLeft, Stands, end_place};
 ghost use Rattle.session_text.specs.declared.program.Program.TheVariants as programs;
 
 use super::NO_SIGNAL;
-use crate::acting::first_act;
+use crate::acting::signals_left;
 use crate::{Program, Walk};
 use sig_hooks::HookTable;
 use vt_base::SigSet;
@@ -62,10 +63,12 @@ impl Walk {
     }
 
     /// Forgets what no call that is left depends on: everything if the program is over, and otherwise the
-    /// signals that were given if no act of theirs is left. So walks with the same calls left are the same
-    /// more often.
+    /// signals that were given, except those with an act that is left. So walks with the same calls left are
+    /// the same more often.
     pub fn forget(&mut self, p: &Program)
-        ensures { (made : List Call) → Stands p.now self.old made → Stands p.now self.new made }
+        ensures over { OnTrue self.old.over (self.new ≡ end_place) }
+        ensures left { OnFalse self.old.over (KeepsLeft p.now self.old self.new) }
+        ensures stands { (made : List Call) → Stands p.now self.old made → Stands p.now self.new made }
     {
         if self.over {
             self.item = 0;
@@ -77,21 +80,19 @@ impl Walk {
         }
         match p {
             Program::Keys(_) => {}
-            Program::Script { hooks, .. } => self.forget_signals(hooks),
+            Program::Script { hooks, .. } => self.keep_left(hooks),
         }
     }
 
-    // Forgets the signals that were given, if no act of theirs is left.
-    fn forget_signals(&mut self, hooks: &HookTable)
-        ensures { (items : Listed) (made : List Call)
+    // Keeps, of the signals that were given, those with an act that is left.
+    fn keep_left(&mut self, hooks: &HookTable)
+        ensures left { AreLeft hooks.now self.old.given self.old.signal self.new.given }
+        ensures rest { self.new ≡ record self.old { given = self.new.given; signal = 1 } }
+        ensures stands { (items : Listed) (made : List Call)
             → Stands (programs.Script items hooks.now) self.old made
             → Stands (programs.Script items hooks.now) self.new made }
     {
-        match first_act(hooks, self.given, self.signal) {
-            Some(_) => return,
-            None => {}
-        }
-        self.given = SigSet::empty();
-        self.signal = NO_SIGNAL;
+        self.given = signals_left(hooks, self.given, self.signal);
+        self.signal = 1;
     }
 }

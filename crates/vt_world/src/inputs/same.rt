@@ -64,6 +64,8 @@ fn copy_inputs(inputs: &mut [Input], others: &[Input])
 fn copy_input(input: &mut Input, other: &Input)
     ensures { input.new ≡ other.now }
 {
-    input.queue.copy_from(&other.queue);
+    if !input.queue.same(&other.queue) {
+        input.queue.copy_from(&other.queue);
+    }
     input.keys = other.keys;
 }

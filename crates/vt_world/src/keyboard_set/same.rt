@@ -1,30 +1,15 @@
 //! Whether the keyboards of two machines are the same, and the copy of one machine's into the other.
-ghost use Rattle.std.specs.Prelude.{◌≡◌, IsTrue, OnOk, length};
+ghost use Rattle.std.specs.Prelude.{◌≡◌, IsTrue, length};
 
 use crate::keyboard_set::KeyboardSet;
 use scan_codes::Scanner;
-use std::alloc::Global;
-use vt_base::NoMemory;
 
 impl KeyboardSet {
-    /// Whether both are the same. Nothing is proved of the answer `false`.
-    pub(crate) fn same(&self, other: &KeyboardSet) -> bool
-        ensures { IsTrue result → self.now ≡ other.now }
+    /// Whether both are the same, except for the tables. Nothing is proved of the answer `false`.
+    pub(crate) fn same_keys(&self, other: &KeyboardSet) -> bool
+        ensures { IsTrue result → self.now ≡ record other.now { tables = self.now.tables } }
     {
-        self.keyboard.same(&other.keyboard)
-            && are_same_scanners(&self.scanners, &other.scanners)
-            && self.tables.same(&other.tables)
-    }
-
-    /// Becomes the other. It takes memory only if the tables aren't the same.
-    pub(crate) fn copy_from(&mut self, alloc: Global, other: &KeyboardSet) -> Result<(), NoMemory>
-        ensures { OnOk result (self.new ≡ other.now) }
-    {
-        if !self.tables.same(&other.tables) {
-            self.tables = other.tables.copy(alloc)?;
-        }
-        self.copy_keys_from(other);
-        Ok(())
+        self.keyboard.same(&other.keyboard) && are_same_scanners(&self.scanners, &other.scanners)
     }
 
     /// Becomes the other, except the tables.

@@ -1,6 +1,7 @@
-//! Whether two machines are the same, and the copy of one machine into the memory of another one.
-ghost use Rattle.std.specs.Prelude.{◌≡◌, IfOk, IsTrue};
+//! Whether two machines are the same, and the copy of one machine into another one.
+ghost use Rattle.std.specs.Prelude.{◌≡◌, IsTrue, OnErr, OnOk};
 ghost use Rattle.vt_world.specs.Heard.{without_marks};
+ghost use Rattle.vt_world.specs.State.{with_tables};
 
 use crate::World;
 use std::alloc::Global;
@@ -11,6 +12,21 @@ impl World {
     /// the answer `false`.
     pub fn same(&self, other: &World) -> bool
         ensures { IsTrue result → without_marks self.now ≡ without_marks other.now }
+    {
+        if !self.same_beside_tables(other) {
+            return false;
+        }
+        if !self.board.tables.same(&other.board.tables) {
+            return false;
+        }
+        true
+    }
+
+    /// Whether both machines are the same, except for the marks of the last event and for the key tables,
+    /// which it doesn't look at. Nothing is proved of the answer `false`.
+    pub fn same_beside_tables(&self, other: &World) -> bool
+        ensures { IsTrue result
+            → without_marks self.now ≡ without_marks (with_tables self.now.board.tables other.now) }
     {
         if self.size.rows != other.size.rows || self.size.cols != other.size.cols {
             return false;
@@ -27,7 +43,7 @@ impl World {
         if !self.inputs.same(&other.inputs) {
             return false;
         }
-        if !self.board.same(&other.board) {
+        if !self.board.same_keys(&other.board) {
             return false;
         }
         if !self.terminals.same(&other.terminals) {
@@ -36,36 +52,34 @@ impl World {
         true
     }
 
-    /// A copy of the other machine, in the memory of this one. It takes memory only for screens of another
-    /// size or of consoles that this one doesn't have, and for key tables that aren't the same.
-    pub fn into_copy(self, alloc: Global, other: &World) -> Result<World, NoMemory>
-        ensures { IfOk result (λ w. w ≡ other.now) }
+    /// Becomes the other machine. It takes memory only if the key tables aren't the same, or the screens of
+    /// this machine aren't those of the same consoles with the same sizes.
+    pub fn copy_from(&mut self, alloc: Global, other: &World) -> Result<(), NoMemory>
+        ensures ok { OnOk result (self.new ≡ other.now) }
+        ensures err { OnErr result (self.new ≡ self.old) }
     {
-        let World {
-            size: _,
-            mut switch,
-            mut procs,
-            mut terminals,
-            mut inputs,
-            mut board,
-            mut trace,
-            kept,
-        } = self;
-        board.copy_from(alloc, &other.board)?;
-        terminals.copy_from(alloc, &other.terminals)?;
-        switch.copy_from(&other.switch);
-        procs.copy_from(&other.procs);
-        inputs.copy_from(&other.inputs);
-        trace.copy_from(&other.trace);
-        Ok(World {
-            size: other.size,
-            switch,
-            procs,
-            terminals,
-            inputs,
-            board,
-            trace,
-            kept,
-        })
+        if self.board.tables.same(&other.board.tables) {
+            return self.copy_beside_tables(alloc, other);
+        }
+        let tables = other.board.tables.copy(alloc)?;
+        self.copy_beside_tables(alloc, other)?;
+        self.board.tables = tables;
+        Ok(())
+    }
+
+    /// Becomes the other machine, but keeps its key tables. It takes memory only if the screens of this
+    /// machine aren't those of the same consoles with the same sizes.
+    pub fn copy_beside_tables(&mut self, alloc: Global, other: &World) -> Result<(), NoMemory>
+        ensures ok { OnOk result (self.new ≡ with_tables self.old.board.tables other.now) }
+        ensures err { OnErr result (self.new ≡ self.old) }
+    {
+        self.terminals.copy_from(alloc, &other.terminals)?;
+        self.size = other.size;
+        self.switch.copy_from(&other.switch);
+        self.procs.copy_from(&other.procs);
+        self.inputs.copy_from(&other.inputs);
+        self.board.copy_keys_from(&other.board);
+        self.trace.copy_from(&other.trace);
+        Ok(())
     }
 }

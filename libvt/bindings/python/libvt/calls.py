@@ -360,7 +360,12 @@ _CALLS = {
     "vt_machine_display": (_to(_Display),),
     "vt_machine_console": (_number, _to(_Console)),
     "vt_machine_row": (_number, _number, _to(_Cell), _size),
+    "vt_machine_cells": (_number, _to(_Cell), _size),
     "vt_machine_redraw": (_number, _room, _size, _to(_size)),
+    "vt_machine_redraw_changes": (_number, _to(_Cell), _size, _number, _room, _size, _to(_size)),
+    "vt_machine_redraw_near": (_number, _room, _size, _to(_size)),
+    "vt_machine_redraw_changes_near": (_number, _to(_Cell), _size, _number, _room, _size, _to(_size)),
+    "vt_machine_picture": (_number, _room, _size, _to(_size)),
     "vt_machine_entry": (_number, _room, _size, _to(_size)),
     "vt_machine_journal": (_room, _size, _to(_size)),
 }

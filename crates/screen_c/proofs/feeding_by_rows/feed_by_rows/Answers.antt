@@ -117,7 +117,7 @@ returns c = record {
       let fits : c.args.most - c.loop-n.left + 2 ≤ c.args.most =
       subst (λ (n : ℕ). c.args.most - c.loop-n.left + 2 ≤ n) (sym c.requires) rows in
       elim c.loop-n-test.branch [
-        then-loop-n-test+then-at-b+else-left-ge2 w ↦ absurd (omega (arith, w.if-left-ge2.false, fits, c.loop-n.invariant.rows))
+        | then-loop-n-test+then-at-b+else-left-ge2 w ↦ absurd (omega (arith, w.if-left-ge2.false, fits, c.loop-n.invariant.rows))
         | then-loop-n-test+else-at-b w ↦ omega (arith, w.if-at-b.false, c.loop-n.invariant.within)
         | else-loop-n-test w ↦ absurd (omega (arith, w.loop-n-test.false, room, c.loop-n.invariant.size))
       ];

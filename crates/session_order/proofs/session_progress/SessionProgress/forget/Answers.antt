@@ -22,7 +22,7 @@ returns c = λ programs h is at.
       read = subst (λ k. walk ≡ get_or items k walk) p c.index_mut-walk.ensures.value;
       walks = ap (λ k. set items k moved) p;
       counts = refl;
-      stands = c.forget.ensures;
+      stands = c.forget.ensures.stands;
     } in
     forgot programs h c.args.p c.args.program.now before after change is
     (subst (AreAfter programs h) (sym c.self.view_is) at)
