@@ -68,7 +68,7 @@ int main(int count, char **words)
 {
     static uint8_t text[LENGTH + 16];
     static struct vt_cell tall[TALL][MOST_COLS];
-    unsigned long all = 0, done = 0, wanted = count > 1 ? (unsigned long)atol(words[1]) : 2000;
+    unsigned long all = 0, done = 0, wanted = count > 1 ? (unsigned long)atol(words[1]) : 300;
     while (done < wanted && failed == 0) {
         struct vt_screen small = { 0 }, high = { 0 };
         struct vt_state state;
