@@ -14,10 +14,12 @@ neither.
 """
 import argparse
 import collections
+import os
 import pathlib
 import re
 import subprocess
 import sys
+import tempfile
 
 import kbd_names
 import kbd_tables
@@ -40,16 +42,17 @@ class ProgramError(Exception):
     """A program that is missing, fails, or refuses what it was given."""
 
 
-def run(words, given):
+def run(words, given, **options):
     """Returns what a program prints, or raises ProgramError with the first lines that it has on err."""
     try:
-        ran = subprocess.run(words, input=given, capture_output=True, timeout=SECONDS, check=False)
+        ran = subprocess.run(words, input=given, capture_output=True, timeout=SECONDS, check=False, **options)
     except OSError as error:
         raise ProgramError(f"{words[0]}: {error.strerror}") from error
     except subprocess.TimeoutExpired as error:
         raise ProgramError(f"{words[0]} took over {SECONDS} s") from error
     if ran.returncode:
         lines = [line for line in ran.stderr.decode("utf-8", "replace").splitlines() if line.strip()]
+        lines = [line for line in lines if not line.endswith("unexpected ERROR")] or lines
         raise ProgramError(f"{pathlib.Path(words[0]).name}: {'; '.join(lines[:2])}")
     return ran.stdout.decode("latin-1")
 
@@ -71,10 +74,30 @@ def kbd_strings(printed):
     return {key: string for key, string in found.items() if string}
 
 
-def kbd_tables_of(text, path=None):
-    """Returns what loadkeys makes of a text, or of a file."""
-    words = ["loadkeys", "-u", "--mktable", *([str(path)] if path else [])]
-    printed = run(words, None if path else text)
+def link_all(folders, place):
+    """Links each file of the folders in one place; of files of one name the first."""
+    for folder in folders:
+        for file in sorted(pathlib.Path(folder).glob("*")):
+            link = place / file.name
+            if file.is_file() and not link.is_symlink():
+                link.symlink_to(file.absolute())
+
+
+def kbd_tables_of(text, path=None, folders=()):
+    """Returns what loadkeys makes of a text, or of a file, which may include the files of these folders.
+
+    It runs in another folder than the keymap's: loadkeys 2.5.1 opens a file twice that it includes from its current
+    one, and refuses it. Of the folders of LOADKEYS_INCLUDE_PATH it takes the first alone from the second include on, so
+    one folder has links to all files.
+    """
+    words = ["loadkeys", "-u", "--mktable", *([str(path.absolute())] if path else [])]
+    with tempfile.TemporaryDirectory() as name:
+        place = pathlib.Path(name)
+        environment = dict(os.environ)
+        if folders:
+            link_all([*folders, *kbd_text.common_folders()], place)
+            environment["LOADKEYS_INCLUDE_PATH"] = name
+        printed = run(words, None if path else text, cwd="/", env=environment)
     try:
         return tables_in(printed)
     except (TypeError, ValueError, KeyError) as error:
@@ -184,17 +207,18 @@ def repaired(text):
     yield "without its keymaps line", re.sub(rb"^[ \t]*keymaps.*$", b"", text, flags=re.M)
 
 
-def judged_tables(path, text):
+def judged_tables(path, text, search):
     """Returns what loadkeys makes of a keymap, and the repair that it took, if it took one."""
+    folders = [*kbd_text.near_folders(path or pathlib.Path("-")), *search]
     try:
-        return kbd_tables_of(text, path), ""
+        return kbd_tables_of(text, path, search if path else folders), ""
     except ProgramError as error:
         first = error
     given = text if text is not None else kbd_text.read(path).encode("latin-1")
     for name, other in repaired(given):
         try:
             if other != given:
-                return kbd_tables_of(other), name
+                return kbd_tables_of(other, None, folders), name
         except ProgramError:
             continue
     raise first
@@ -226,7 +250,7 @@ def different(lines, note, converted):
 def compare(program, actions, name, charset="", search=()):
     """Returns the verdict on one keymap."""
     converted, text = converted_keymap(name, charset, search)
-    theirs, repair = judged_tables(None if text is not None else kbd_text.keymap_path(name, search), text)
+    theirs, repair = judged_tables(None if text is not None else kbd_text.keymap_path(name, search), text, search)
     if repair == SHIFTED:
         actions = actions | {number: (1, number + 0x1000) for number in range(0xE000, 0xF000)}
     listed = {loss.entry for loss in converted.losses}

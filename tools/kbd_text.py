@@ -113,15 +113,23 @@ def with_ending(path, endings):
     return None
 
 
-def included_path(name, path, search):
-    """Finds the file of an include line: near the file that includes it, then in the folders given, then in kbd's."""
-    near = [
+def near_folders(path):
+    """Returns the folders near a file, and near the file that it links to."""
+    return [
         folder
         for file in (path, path.resolve())
         for folder in (file.parent, file.parent / "../include", file.parent / "../../include")
     ]
-    common = [f"{folder}/{part}" for folder in FOLDERS for part in COMMON]
-    for folder in [*near, *search, *common]:
+
+
+def common_folders():
+    """Returns kbd's folders of files that keymaps include."""
+    return [f"{folder}/{part}" for folder in FOLDERS for part in COMMON]
+
+
+def included_path(name, path, search):
+    """Finds the file of an include line: near the file that includes it, then in the folders given, then in kbd's."""
+    for folder in [*near_folders(path), *search, *common_folders()]:
         found = with_ending(f"{folder}/{name}" if not name.startswith("/") else name, ["", ".inc"])
         if found:
             return found

@@ -31,9 +31,9 @@ FOLDER = TOP / "crates/cases"
 BUILT = TOP / "out/bin"
 CASES = BUILT / "cases"
 LIBRARY = TOP / "out/c/lib/libvt.a"
-SECONDS = 300
+SECONDS = 1200
 SHOWN_LINES = 25
-OF_C = "header,codes,cuts,outs,memory,threads,keys,faults,terminal,python,install,guide"
+OF_C = "header,codes,cuts,outs,steps,memory,threads,keys,consoles,faults,terminal,python,install,guide"
 OVER_LIBRARY = ("check_c.py", "check_expect.py", "check_python.py", "check_vtrun.py")
 # The checks, in groups that aren't run side by side: those of a group write the same files. The longest come first.
 CHECKS = [

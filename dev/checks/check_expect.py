@@ -39,7 +39,7 @@ from programs import find_for_check  # noqa: E402
 
 TOOLS, TESTS = TOP / "tools", TOP / "examples/tests"
 GUIDES = [f"docs/guide/{name}.md" for name in ("test-a-terminal-program", "from-pyte-and-pexpect", "from-libvterm")]
-SECONDS = 60
+SECONDS = 400
 # pyte draws vttest's frame otherwise than vttest's own text describes it.
 DRAWN_OTHERWISE = ["vttest.test:13: ?screen"]
 
@@ -191,7 +191,7 @@ def recorded(_):
 def casts(_):
     """docs/tour.svg is the moving picture of its recording. A cast has the stream: of version 2, which record.py
     writes, and the same output in versions 1 and 3."""
-    drawn = run([TOOLS / "animation.py", TOP / "examples/pictures/tour.cast"])
+    drawn = run([TOOLS / "animation.py", "--still", "12.5", TOP / "examples/pictures/tour.cast"])
     is_so = drawn is not None and drawn.stdout == (TOP / "docs/tour.svg").read_bytes()
     yield None if is_so else "docs/tour.svg isn't the moving picture of examples/pictures/tour.cast"
     with tempfile.TemporaryDirectory() as folder:

@@ -5,10 +5,10 @@ usage: dev/checks/check_install.py
 
 A small clone is made of the files that an installation needs and of the programs and the library that are built here,
 proved or not. From there tools/install.sh installs into folders of their own; then that clone is removed. Each
-installed program and tool is run with a PATH that has these folders alone, and has to do what its page shows. The
-library is in the folder of LIBDIR. Programs and a library that aren't proved are refused without --unproved, and so are
-bad words.
-The archive of tools/release.sh has the sums of its files, is the same twice, and its programs run where it is unpacked.
+installed program and tool is run with a PATH that has these folders alone, and has to do what its page shows; none
+writes into the folder of the installation. The library is in the folder of LIBDIR. Programs and a library that aren't
+proved are refused without --unproved, and so are bad words. The archive of tools/release.sh has the sums of its files,
+is the same twice, and its programs run where it is unpacked.
 
 Prints a line for each thing that isn't so and last 'N passed, M failed'. Ends with status 1 if one fails, and with 2 if
 no programs are built.
@@ -255,11 +255,14 @@ def main():
             check_release(check, clone, folder / "release")
         shutil.rmtree(clone.top)
         shutil.rmtree(folder / "unproved")
+        installed = set(prefix.rglob("*"))
         do = Installed(path_of(prefix, folder / "system"), folder / "run")
         check_programs(check, do)
         check_terminals(check, do, clone.has_library)
         check_keymap_tools(check, do)
         check_engines(check, do, clone.has_library)
+        more = sorted(map(str, set(prefix.rglob("*")) ^ installed))
+        check.holds(not more, f"a program writes into its prefix: {more}")
     print(f"{check.passed} passed, {check.failed} failed")
     return 1 if check.failed else 0
 

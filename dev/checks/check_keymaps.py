@@ -10,8 +10,9 @@ usage: dev/checks/check_keymaps.py [--vt PROGRAM] [COUNT]
 - Each entry that is lost is listed, and --strict refuses the keymap; a file that can't be read is refused with a
   reason.
 - docs/guide/bring-your-keymap.md shows what its commands print.
+- tools/compare_keymap.py finds the files that a keymap includes, from any folder and by --search, if loadkeys is there.
 
-It needs neither kbd nor its keymaps. Prints a line for each fault and last 'N passed, M failed'; status 1 if one fails.
+The rest needs neither kbd nor its keymaps. Prints a line for each fault and last 'N passed, M failed'; status 1 if one fails.
 """
 import argparse
 import gzip
@@ -19,6 +20,7 @@ import itertools
 import pathlib
 import random
 import re
+import shutil
 import subprocess
 import sys
 import tempfile
@@ -261,6 +263,37 @@ def name_faults():
             ) == action else f"{name}: made {keymap.action_of(number)}, and it is {action}"
 
 
+def compared_faults(program):
+    """Gives a fault, or None, for keymaps that include others, compared in their folder, from elsewhere, and as a text."""
+    if shutil.which("loadkeys") is None:
+        print("skipped: keymaps compared with loadkeys: loadkeys isn't installed")
+        return
+    own = b'include "german.map"\nkeycode 58 = Escape\n'
+    with tempfile.TemporaryDirectory() as folder:
+        here, other = (pathlib.Path(folder, name) for name in ("here", "other"))
+        for place in (here, other):
+            place.mkdir()
+            (place / "own.map").write_bytes(own)
+        for name in ("german.map", "pc.inc"):
+            shutil.copy(FOLDER / name, here)
+        for where, words, given, status in [
+            (here, ["german.map"], b"", 0),
+            (here, ["./own.map"], b"", 0),
+            (here, ["--back", "own.map"], b"", 0),
+            (here, ["-"], own, 0),
+            (other, ["../here/own.map"], b"", 0),
+            (other, ["own.map"], b"", 3),
+            (other, ["--search", "../here", "own.map"], b"", 0),
+            (other, ["--search", here, "-"], own, 0),
+        ]:
+            words = [sys.executable, TOOLS / "compare_keymap.py", "--vt", pathlib.Path(program).absolute(), *words]
+            ran = subprocess.run(words, input=given, cwd=where, capture_output=True, timeout=SECONDS, check=False)
+            said = ran.stdout.decode()
+            wanted = ": same\n" if status == 0 else 'include "german.map": there is no such file'
+            is_so = ran.returncode == status and (wanted in said or "--back" in words and "the same tables" in said)
+            yield None if is_so else f"compare_keymap.py in {where.name}: {words[4:]}: {ran.returncode}: {said!r}"
+
+
 def page_faults():
     """Gives a fault for each command of the guide that prints something else."""
     yield None
@@ -281,6 +314,7 @@ def main():
         lost_faults(),
         refused_faults(),
         page_faults(),
+        compared_faults(asked.vt),
     ]
     groups += [program_faults(asked.count // 20), damage_faults(asked.vt, asked.count)]
     try:

@@ -9,7 +9,8 @@ usage: check_python.py [--library FILE] [--only PART,..] [--runs N]
   with eight workers if pytest-xdist is installed.
 - `consoles`: the tests of a display server in examples/consoles, by pytest, N times.
 - `types`: mypy --strict. `wheel`: a wheel is made without a network, installed into an empty folder, and used there.
-- `moving`: Chromium shows the frames of docs/tour.svg as their still pictures.
+- `moving`: Chromium shows the frames of docs/tour.svg as their still pictures. `scaled`: rsvg-convert draws it in two
+  sizes, and no pixel is left out, so there is no line between two rows.
 - `versions`: each other Python from 3.9 on that is in PATH runs a program on a terminal.
 
 FILE is libvt.so.1 (out/c/lib in the clone). The parts run side by side. A part that needs what isn't installed is
@@ -31,9 +32,10 @@ sys.path.insert(0, str(pathlib.Path(__file__).resolve().parents[1]))
 
 import repository  # noqa: E402,F401: it has the folders of the modules below
 from browser import installed  # noqa: E402
+from check_picture import pixels_of  # noqa: E402
 from package import FOLDER, TOP  # noqa: E402
 
-SECONDS, WORKERS, LIMIT = 900, 8, 30
+SECONDS, WORKERS, LIMIT = 3000, 8, 100
 LIBRARY = TOP / "out/c/lib/libvt.so.1"
 LIVE = TOP / "examples/tests/live"
 USE = """
@@ -180,6 +182,18 @@ def moving(library, _):
     yield passed, "frames of docs/tour.svg in Chromium", out
 
 
+def scaled(_, __):
+    """README's tour, drawn larger: a line between two rows would have pixels that nothing covers."""
+    converter = shutil.which("rsvg-convert")
+    if converter is None:
+        raise Skipped("rsvg-convert isn't installed")
+    for scale in ("1.3", "1.5"):
+        ran = subprocess.run([converter, "--zoom", scale, TOP / "docs/tour.svg"], capture_output=True, check=False)
+        rows = pixels_of(ran.stdout)[:-1] if ran.returncode == 0 else []
+        lines = [y for y, row in enumerate(rows) if any(pixel[3:] not in (b"", b"\xff") for pixel in row[:-1])]
+        yield bool(rows) and not lines, f"docs/tour.svg in rsvg-convert, {scale} times its size", f"open rows: {lines}"
+
+
 def versions(library, _):
     """The package is used with each other version of Python."""
     found = False
@@ -197,7 +211,7 @@ def versions(library, _):
 
 PARTS = {
     "tests": tests, "programs": programs, "plugin": plugin, "consoles": consoles, "files": files, "wheel": wheel,
-    "types": types, "moving": moving, "versions": versions,
+    "types": types, "moving": moving, "scaled": scaled, "versions": versions,
 }  # fmt: skip
 
 

@@ -15,7 +15,6 @@ thing that isn't so and last 'N passed, M failed'. Ends with status 1 if one fai
 """
 import argparse
 import concurrent.futures
-import shutil
 import sys
 import tempfile
 
@@ -52,11 +51,6 @@ def main():
     options = parser.parse_args()
     if options.list:
         print("\n".join(PARTS))
-        return 0
-    # Most parts switch by chvt and ask by fgconsole.
-    missing = [it for it in ("chvt", "fgconsole", "openvt", "loadkeys") if not shutil.which(it)]
-    if missing:
-        print(f"skipped: vtrun: {', '.join(missing)}: not installed (kbd)")
         return 0
     with tempfile.TemporaryDirectory(prefix="check-vtrun-") as folder:
         try:

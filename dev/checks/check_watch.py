@@ -16,9 +16,9 @@ N free journals (300) are made by dev/checks/free_journals.py, whose second mach
 at any time, and so many more are damaged: `watch free` has to accept exactly those that the second machine finds legal,
 show what it expects of them, and name the same first entry and reason of the others.
 
-Two sessions of dev/checks/race_sessions.py are compared in the same way and raced several times: one of 64 processes,
-of which 60 wait, and one whose last call ends a wait. A race has SECONDS (60) to end: if a caller whose wait has ended
-isn't woken, it never does. Races on one processor show that the callers take turns: a caller has at most MOST_IN_A_ROW
+Three sessions of dev/checks/race_sessions.py are compared in the same way and raced several times: one of 64 processes,
+of which 60 wait, one whose last call ends a wait, and one whose journal is full while one waits. A race has SECONDS
+(60) to end: if a caller whose wait has ended isn't woken, it never does. Races on one processor show that the callers take turns: a caller has at most MOST_IN_A_ROW
 (200) entries in a row while another one has calls to make. Of five races the middle one by this number counts.
 
 Prints a line for each difference and last 'N passed, M failed'. Ends with status 1 if one fails, 2 if a program is
@@ -42,7 +42,7 @@ from check_hostile import mutated  # noqa: E402
 from check_pages import differences, examples  # noqa: E402
 from free_journals import damaged, end_of, journal, text_of, verdict  # noqa: E402
 from programs import find_for_check, search_path  # noqa: E402
-from race_sessions import last_call_session, longest_row, waiting_session, writing_session  # noqa: E402
+from race_sessions import full_session, last_call_session, longest_row, waiting_session, writing_session  # noqa: E402
 from second_reader import Disagrees, Reader, Unread, entries_of  # noqa: E402
 from switch_sessions import session  # noqa: E402
 from tool_files import Stop  # noqa: E402
@@ -223,6 +223,7 @@ def waking(watch, vt, seen):
     """Gives the result of each comparison of the sessions in which callers have to be woken."""
     yield from compare(watch, vt, "60 waiting processes", waiting_session(), RACES, seen)
     yield from compare(watch, vt, "a last call that ends a wait", last_call_session(), RACES, seen)
+    yield from compare(watch, vt, "a journal that is full while one waits", full_session(), RACES, seen)
 
 
 def taking_turns(vt):

@@ -11,7 +11,7 @@ from repository import TOP
 import check_pages
 import package
 
-SECONDS = 60
+SECONDS = 400
 # ten_pexpect.py guesses when less has drawn, so a busy machine may make it fail.
 TRIES = 3
 

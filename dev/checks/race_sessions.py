@@ -19,9 +19,10 @@ def process(home, script):
     return ["[[process]]", f"home = {home}", "privileged = true", f"script = [{items}]", "hooks = []"]
 
 
-def session(processes):
-    """The text of a session in which nobody types."""
+def session(processes, events=None):
+    """The text of a session in which nobody types, with so many events at most."""
     lines = ["rows = 2", "cols = 10", "consoles = [1]", 'keys = ""']
+    lines += [f"events = {events}"] if events is not None else []
     for home, script in processes:
         lines += process(home, script)
     return "\n".join(lines) + "\n"
@@ -49,6 +50,13 @@ def last_call_session():
     ended. So the call that ends the wait is the last one before the call of the process that was woken."""
     owner = ["open 1", "setmode 0 1 0 10 12 0", *["getstate 0"] * 1000, "activate 0 2"]
     return session([(1, owner), (2, ["open 2", "waitactive 0 2"])])
+
+
+def full_session():
+    """Two processes: one waits for a signal that nobody sends, and the other one makes more calls than the journal has
+    room for. So the race ends only if the process that waits is woken when there is no room."""
+    calls = ["open 1", *["getstate 0"] * 2000]
+    return session([(1, ["open 1", "setmode 0 1 0 10 12 0", "waitsignal"]), (1, calls)], events=300)
 
 
 def writing_session(processes, calls):

@@ -6,7 +6,7 @@ import sys
 import textwrap
 
 from programs import TOP
-from vtrun_runs import TESTS, command
+from vtrun_runs import TESTS, command, need
 
 PAGE = TOP / "docs/reference/vtrun.md"
 # What is asked by vtrun/tests/runs/speaker.py, and its answer.
@@ -40,7 +40,7 @@ WANTED = {
     "attached switch": ["ok", ""],
 }
 STATUSES = [0, 1, 0, 1, 1, 0, 0, 1, 1, 0, 0, 3, 0, 1, 2, 2, 3, 3, 2, 0]
-TYPED = 'aZ09 !~{|\\<"^M\t^[^[[A^[[[A^[[24~^[[[A^[[6~^[[3~^A^[x^[y^['
+TYPED = 'aZ09 !~{|\\<"^M\t^[^[[A^[[[A^[[24~^[[[A^[[6~^[[3~^A^[x^[y^[#'
 
 
 def check_protocol(check, place):
@@ -68,6 +68,7 @@ def check_words(check, place):
 
 def check_typing(check, place):
     """Characters and names of keys, as programs get them; and after another keymap."""
+    need("loadkeys")
     ran = place.play("typing", "--consoles", "1-2")
     check.holds(ran.lines()[:1] == [TYPED], f"typed keys: {ran.lines()}, wanted {TYPED} {ran.err}")
     check.holds(ran.lines()[-1:] == ["q"], f"a key that was loaded: {ran.lines()}")

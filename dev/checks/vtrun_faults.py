@@ -5,10 +5,12 @@ import subprocess
 import sys
 import time
 
-from vtrun_runs import TESTS, Absent, command, need
+from vtrun_runs import SECONDS, TESTS, Absent, command, need
 
 REQUESTS = 8  # of a server that gets a console, loses it, and gets it again
 DEATHS = 6  # of these servers, at least: those that aren't asked so often end by SIGTERM
+STRIKES = 3000
+STORM = f"storm {STRIKES}"
 CLIENTS = {
     "bad": [
         "null Bad address", "high Bad address", "across Bad address", "end ok", "path at end ok",
@@ -17,7 +19,7 @@ CLIENTS = {
     ],
     "closed 3": ["switched ok", "waited ok"],
     "alarm 4": ["interrupted Interrupted system call", "went on ok after several signals"],
-    "storm 3000": ["wrong 0 failed 0 signals many"],
+    STORM: ["wrong 0 failed 0 signals many"],
     "threads": ["failed 0"],
     "around": [
         "i386 Function not implemented", "x32 Function not implemented", "ring Function not implemented",
@@ -27,13 +29,14 @@ CLIENTS = {
 REFUSED = "gets no seat: all 64 processes of the machine are taken (EUSERS)"
 NODES = "ls -ln /dev/tty* /dev/vcs* /dev/console 2>/dev/null | awk '{ print $1, $3, $4, $5, $6, $NF }'; ls /dev | sort"
 GROWTH_KB = 1024
-LEAST_RATE = 1000  # requests a second, on a loaded machine
-LONGEST = 30  # seconds
+MOST_US = 1000  # of vtrun's processor, for a request
+LONGEST = 200  # seconds
 READABLE = 15_000_000  # bytes that `vt check` reads
 
 
 def check_deaths(check, place):
     """A server dies after each of its requests, or a program while it waits: the display goes on."""
+    need("chvt", "fgconsole")
     ran = place.play("deaths", "--consoles", "1-2", given=[REQUESTS], journal=True)
     died = [line for line in ran.lines() if line.endswith(" 137 1")]
     good = len(ran.lines()) == REQUESTS and "stuck" not in ran.out
@@ -47,25 +50,33 @@ def check_deaths(check, place):
 
 def check_attention(check, place):
     """The attention key ends the programs of the console in front, and no others."""
-    need("loadkeys", "chvt")
+    need("loadkeys", "chvt", "fgconsole")
     ran = place.play("attention", "--consoles", "1-3", journal=True)
     wanted = ["137", "137", "1", "1", "hello", "again"]
     check.holds(ran.lines() == wanted, f"the attention key: {ran.lines()} {ran.err}")
     check.holds(ran.is_legal(), "the journal of the attention key isn't legal")
 
 
+def keeps_answers():
+    """Whether the kernel lets no signal take an answer away."""
+    return tuple(map(int, os.uname().release.split("-")[0].split(".")[:2])) >= (5, 19)
+
+
 def check_clients(check, place):
     """Bad pointers, closed descriptors, and signals at every moment."""
     for words, lines in CLIENTS.items():
-        ran = place.run(f"$T/clients {words}", journal=not words.startswith("storm"))
+        ran = place.run(f"$T/clients {words}", journal=True)
         good = ran.lines() == lines and ran.status == 0
-        check.holds(good, f"clients {words}: {ran.lines()} {ran.err}, wanted {lines}")
-        if ran.journal:
-            check.holds(ran.is_legal(), f"the journal of clients {words} isn't legal")
+        check.holds(good, f"clients {words}: {ran.status} {ran.lines()} {ran.err}, wanted {lines}")
+        check.holds(ran.is_legal(), f"the journal of clients {words} isn't legal")
+        if words == STORM and keeps_answers():
+            made = ran.journal.read_text(encoding="ascii").count(" setkd ")
+            check.holds(made == STRIKES, f"clients {words}: {made} of {STRIKES} requests were made")
 
 
 def check_numbers(check, place):
     """64 processes of the machine, and a 65th: a named refusal. Seats of programs that ended serve others."""
+    need("fgconsole")
     ran = place.run("$T/clients many 70; $T/clients many 20; fgconsole")
     first, second, last = (ran.lines() + ["", "", ""])[:3]
     count = int((first.split() + ["", "0"])[1])
@@ -85,6 +96,7 @@ def check_numbers(check, place):
 
 def check_flood(check, place):
     """Output without an end, and programs that read nothing: vtrun still answers at once."""
+    need("chvt", "fgconsole")
     ran = place.play("flood", "--consoles", "1-5")
     good = ran.lines() == ["5", "0", "5"] and ran.seconds < LONGEST
     check.holds(good, f"a flood: {ran.lines()} {ran.seconds:.0f} s {ran.err}")
@@ -97,6 +109,7 @@ def alive(word):
 
 def check_killed(check, place):
     """vtrun ends by force: its programs end too, also those that ignore a hang-up, and /dev hasn't changed."""
+    need("pgrep")
     before, mark, word = command(["sh", "-c", NODES]).stdout, place.new("mark"), os.getpid()
     words = [*place.words("--consoles", "1-3"), "bash", TESTS / "runs/stubborn.sh", mark, word]
     nothing = {"stdin": subprocess.DEVNULL, "stdout": subprocess.DEVNULL, "stderr": subprocess.DEVNULL}
@@ -125,10 +138,10 @@ def check_ends(check, place):
     ignoring = ["sh", "-c", "trap '' INT QUIT; exec \"$@\"", "sh"]
     ran = place.run("bash -c 'kill -INT $$'; echo $?", before=ignoring)
     check.holds(ran.lines() == ["130"], f"a caller that ignores SIGINT: {ran.lines()}")
-    ran = command([place.folder / "vtrun", "--timeout", "1", "--", "sleep", "30"])
+    ran = command([place.folder / "vtrun", "--timeout", "1", "--", "sleep", SECONDS])
     check.holds(ran.returncode == 124, f"a time limit: {ran.returncode}")
-    ran = place.run("trap '' HUP TERM; sleep 30 & vtrun end; sleep 30")
-    check.holds(ran.status == 0 and ran.seconds < 10, f"vtrun end: {ran.status} after {ran.seconds:.0f} s")
+    ran = place.run(f"trap '' HUP TERM; sleep {SECONDS} & vtrun end; sleep {SECONDS}")
+    check.holds(ran.status == 0 and ran.seconds < LONGEST, f"vtrun end: {ran.status} after {ran.seconds:.0f} s")
     bad = ("--size 0 80", "--consoles 0", "-x", "--keymap /nonexistent", "--on", "--user nosuchuser")
     for words in (*([*it.split(), "--", "true"] for it in bad), ["--"], []):
         ran = command([place.folder / "vtrun", *words])
@@ -141,11 +154,14 @@ def check_ends(check, place):
 
 def check_memory(check, place):
     """Without a journal memory stays, however many calls are made."""
+    need("fgconsole")
     ran = place.play("memory")
     sizes = [int(line) for line in ran.lines() if line.isdigit()]
-    rates = [int(line.split()[2]) for line in ran.lines() if "a second" in line]
+    ticks = [int(line.split()[1]) for line in ran.lines() if line.startswith("ticks ")]
+    counts = [int(line.split()[0]) for line in ran.lines() if " requests: " in line]
     check.holds(len(sizes) == 2 and sizes[1] - sizes[0] < GROWTH_KB, f"memory: {ran.lines()}")
-    check.holds(rates and rates[-1] > LEAST_RATE, f"requests a second: {ran.lines()}")
+    good = ticks and ticks[0] / os.sysconf("SC_CLK_TCK") * 1_000_000 < MOST_US * counts[-1]
+    check.holds(good, f"the time of {counts[-1:]} requests: {ran.lines()}")
 
 
 def check_fuzz(check, place):

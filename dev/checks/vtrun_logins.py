@@ -21,7 +21,7 @@ COVERED = 'mount --bind "$1" /etc/shadow && mount -t tmpfs none /run && shift &&
 
 def check_login(check, place):
     """agetty, login and a shell: names, job control, the interrupt key."""
-    need("agetty", "login", "setsid")
+    need("agetty", "login", "chvt", "fgconsole", "pgrep")
     if os.geteuid():
         raise Absent("only root may log in without a password")
     ran = place.play("login", "--consoles", "1-2", journal=True)
@@ -60,15 +60,15 @@ def with_password(place):
 
 def check_vlock(check, place):
     """vlock holds its console until the password is typed."""
-    need("vlock", "chvt")
+    need("vlock", "chvt", "fgconsole", "pgrep")
     ran = place.play("vlock", "--consoles", "1-2", journal=True, before=with_password(place))
-    check.holds(ran.lines() == ["124", "2", "0", "1"], f"vlock: {ran.lines()} {ran.err}")
+    check.holds(ran.lines() == ["143", "2", "0", "1"], f"vlock: {ran.lines()} {ran.err}")
     check.holds(ran.is_legal(), "the journal of vlock isn't legal")
 
 
 def check_physlock(check, place):
     """physlock takes a new console and forbids switches until the password is typed."""
-    need("physlock", "chvt")
+    need("physlock", "chvt", "fgconsole", "pgrep")
     ran = place.play("physlock", "--consoles", "1-2", journal=True, before=with_password(place))
     check.holds(ran.lines() == ["1", "0", "2"], f"physlock: {ran.lines()} {ran.err}")
     check.holds(ran.is_legal(), "the journal of physlock isn't legal")
@@ -76,7 +76,7 @@ def check_physlock(check, place):
 
 def check_greetd(check, place):
     """greetd switches to its console and starts a session there."""
-    need("greetd", "agreety")
+    need("greetd", "agreety", "fgconsole", "pgrep")
     file = place.new("greetd")
     file.write_text(GREETD, encoding="ascii")
     ran = place.play("greetd", "--consoles", "1-2", given=[file], journal=True, before=with_password(place))

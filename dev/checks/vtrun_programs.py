@@ -30,6 +30,9 @@ REQUESTS_OTHERWISE = {
     "KDGETKEYCODE": "ok", "KDSETKEYCODE": "ok",  # (there is no keyboard there: ENODEV)
     "VT_DISALLOCATE": "ok",  # (of a console that isn't allocated)
 }  # fmt: skip
+# Programs that look for a default font, and where they may find one: none was there when they were recorded.
+WITH_FONT = ("setfont -v", "setfont -m none")
+FONTS = ("/usr/share/consolefonts", "/usr/share/kbd/consolefonts", "/usr/lib/kbd/consolefonts", "/lib/kbd/consolefonts")
 HANDSHAKES = 1000
 # The paths that may lead to a console in front.
 PATHS = (
@@ -60,7 +63,10 @@ def check_real(check, place):
     ran = place.run(f"exec bash {TESTS}/programs.sh", journal=True)
     here, there = answers_in(ran.lines()), answers_in(recorded("real-programs.txt"))
     check.holds(ran.status == 0 and len(here) == len(there), f"programs.sh ends with {ran.status}: {ran.err}")
+    has_font = any(path for folder in FONTS for path in pathlib.Path(folder).glob("default8x16*"))
     for (words, lines), (wanted_words, wanted) in zip(here, there):
+        if has_font and words in WITH_FONT:
+            continue
         wanted = OTHERWISE.get(words, wanted)
         check.holds(words == wanted_words and lines == wanted, f"{words}: {lines}, wanted {wanted}")
     check.holds(ran.is_legal(), "the journal of programs.sh isn't legal")
@@ -83,7 +89,7 @@ def check_requests(check, place):
 
 def check_keys(check, place):
     """dumpkeys and loadkeys: what is dumped is loaded again, and changes nothing."""
-    need("loadkeys", "dumpkeys")
+    need("loadkeys", "dumpkeys", "chvt")
     ran = place.play("keys", journal=True)
     key, string = "keycode  30 = +b               +A               +a              ", 'string F100 = "hundred"'
     check.holds(ran.lines() == ["0", "0", "0", key, string, "0", "0"], f"loadkeys: {ran.lines()}, {ran.err}")
@@ -92,7 +98,7 @@ def check_keys(check, place):
 
 def check_readers(check, place):
     """showkey reads keys in two modes; setkeycodes gives a scan code a key; screendump reads a screen."""
-    need("showkey", "setkeycodes", "screendump")
+    need("showkey", "setkeycodes", "screendump", "chvt")
     ran = place.play("readers", "--consoles", "1-3")
     wanted = [
         "0x1e 0x9e 0xe0 0x48 0xe0 0xc8 ", "keycode  30 press", "keycode  30 release", "keycode 103 press",
@@ -116,9 +122,10 @@ def check_handshakes(check, place):
 
 def check_servers(check, place):
     """A server that refuses keeps its console; one that hangs loses it when it is killed."""
+    need("chvt", "fgconsole")
     ran = place.play("servers", "--consoles", "1-3", journal=True)
     got = [line for line in ran.lines() if not line.startswith("server")]
-    check.holds(got == ["124", "2", "1", "3", "0", "1"], f"servers that refuse and hang: {ran.lines()}")
+    check.holds(got == ["143", "2", "1", "3", "0", "1"], f"servers that refuse and hang: {ran.lines()}")
     good = "server 2: refused" in ran.lines() and "server 3: asked" in ran.lines()
     check.holds(good, f"servers were asked: {ran.lines()}")
     good = any(re.search(r"3 1 died \d+ asked \d+ signal 10", row) for row in ran.explained())
@@ -128,7 +135,7 @@ def check_servers(check, place):
 
 def check_openvt(check, place):
     """openvt gives a console as the controlling terminal, by its name."""
-    need("openvt", "tty")
+    need("openvt", "fgconsole", "tty")
     script = "openvt -s -w -c 4 -- sh -c 'tty > $T/openvt; fgconsole >> $T/openvt'; cat $T/openvt; fgconsole"
     ran = place.run(script)
     name = "/dev/tty4" if place.has_namespaces else "/dev/pts"
@@ -147,7 +154,7 @@ def check_rights(check, place):
 
 def check_user(check, place):
     """vtrun of a user who isn't root, in a user namespace and without one."""
-    need("setpriv", "chvt")
+    need("setpriv", "chvt", "fgconsole", "openvt")
     if os.geteuid():
         raise Absent("only root may become another user")
     before = ["setpriv", f"--reuid={NOBODY}", f"--regid={NOBODY}", "--clear-groups"]
@@ -159,7 +166,7 @@ def check_user(check, place):
 
 def check_container(check, place):
     """Root without the capabilities that a container takes away."""
-    need("setpriv", "chvt")
+    need("setpriv", "chvt", "fgconsole", "openvt")
     if os.geteuid():
         raise Absent("only root has capabilities to give up")
     lost = "--bounding-set=-sys_admin,-sys_ptrace,-sys_tty_config,-mknod,-net_admin"
@@ -170,7 +177,7 @@ def check_container(check, place):
 
 def check_empty(check, place):
     """A /dev without consoles."""
-    need("unshare", "chvt")
+    need("unshare", "chvt", "fgconsole", "openvt")
     if os.geteuid():
         raise Absent("only root may make a /dev")
     dev = place.new("dev")
@@ -184,6 +191,7 @@ def check_empty(check, place):
 
 def check_paths(check, place):
     """No path of a static program leads to the real machine's consoles."""
+    need("chvt")
     active = pathlib.Path("/sys/class/tty/tty0/active")
     before = active.read_text(encoding="ascii") if active.exists() else ""
     link = place.new("link")

@@ -9,7 +9,8 @@ import repository  # noqa: F401: it has the folders of the modules below
 from programs import TOP, find_for_check
 
 TESTS = TOP / "vtrun/tests"
-SECONDS = 60
+# The limit of vtrun, and that of a command. They are far longer than a run takes, also with many others beside it.
+LIMIT, SECONDS = 300, 400
 # The test programs, with what each needs besides a C compiler.
 PROGRAMS = {"server": [], "switches": [], "asks": [], "clients": ["-static", "-lpthread"], "fuzz": []}
 SEAT_CLIENT = "seat_client"
@@ -21,8 +22,9 @@ class Absent(Exception):
 
 
 def command(words, **how):
-    """Runs a command to its end."""
+    """Runs a command to its end. Its output may have any bytes, as the words of random requests have."""
     how = {"stdin": subprocess.DEVNULL, "capture_output": True, "text": True, "timeout": SECONDS, "check": False, **how}
+    how.setdefault("errors", "replace")
     if "input" in how:
         del how["stdin"]
     return subprocess.run([str(word) for word in words], **how)
@@ -91,7 +93,7 @@ class Place:
 
     def words(self, *words):
         """vtrun's command line up to its command."""
-        return [self.folder / "vtrun", "--timeout", "40", *words, "--"]
+        return [self.folder / "vtrun", "--timeout", LIMIT, *words, "--"]
 
     def environment(self):
         """vtrun in PATH, and nothing that asks for another one."""

@@ -4,10 +4,11 @@
 usage: dev/gen/crates_map.py --write | --check
 
 The groups and their order are those of crates.txt: a line `# ..` begins a group, and the lines below it are its crates.
-The sentence of a crate is the first one of its root file, and its types are those that its sources declare public; a
-crate with fewer than three has the names of its files too. The crates of each page of docs/proofs/, in the table at the
-top of its README.md, are the sections `## CRATE` of the page. --check compares what stands there, and ends with status
-1 if it differs, if a crate has no line in crates.txt, or if a file that the map names isn't there.
+The sentence of a crate is the first one of its root file, and its types are those that its sources declare public.
+dev/gen/crates_files.py has the text of the second page, crates/FILES.md, with the files of each crate. The crates of
+each page of docs/proofs/, in the table at the top of its README.md, are the sections `## CRATE` of the page. --check
+compares what stands there, and ends with status 1 if it differs, if a crate has no line in crates.txt, or if a file
+that the map names isn't there.
 """
 import pathlib
 import re
@@ -16,21 +17,22 @@ import sys
 sys.dont_write_bytecode = True
 sys.path.insert(0, str(pathlib.Path(__file__).resolve().parents[1]))
 
-from repository import TOP  # noqa: E402: after the folder that it stands in
+from crates_files import files_text  # noqa: E402: after the folder that it stands in
+from repository import TOP  # noqa: E402
 from programs import CRATES as PROGRAMS  # noqa: E402
 
 CRATES = TOP / "crates"
-MAP = CRATES / "README.md"
+MAP, FILES = CRATES / "README.md", CRATES / "FILES.md"
 PROOFS = TOP / "docs/proofs"
 HEAD = """# Crates
 
 Each crate is a folder here, and uses only crates above it in this list. The groups are those of
-[crates.txt](../crates.txt), which has the crates that each one names. A name leads to the crate's root file, `proved`
-to what is proved about it, and [Types and calls](../docs/library/api/README.md) has each public call. A **program** is
-marked. The column "has" names the public types of a crate, and its files if there are fewer than three of them, as in a
-program or a crate of tests. The definitions that contracts cite are in the folder `specs` of each crate.
-`tools/copy_crates.py` copies a crate with all that it needs ([Embed a
-crate](../docs/guide/embed-a-crate.md#1-copy-the-crates)).
+[crates.txt](../crates.txt), which has the crates that each one names. A name leads to the crate's root file, `files` to
+its files in [the second map](FILES.md), each with a sentence and the names that stand in it, and `proved` to what is
+proved about it. [Types and calls](../docs/library/api/README.md) has each public call. A **program** is marked. The
+column "types" has the public types of a crate. The definitions that contracts cite are in its folder `specs`, and [the
+proof of each function](../CONTRIBUTING.md#where-a-proof-stands) in its folder `proofs`. `tools/copy_crates.py` copies a
+crate with all that it needs ([Embed a crate](../docs/guide/embed-a-crate.md#1-copy-the-crates)).
 """
 # Where to begin to read: what happens, the call, its file, the section with each step, and what other crates do.
 WAYS = [
@@ -95,20 +97,12 @@ def sections():
     return found
 
 
-def parts_of(crate):
-    """The public types of a crate; if there are few, its files too, those of its tests if it is a crate of tests."""
-    sources = CRATES / crate / "src"
+def types_of(crate):
+    """The public types of a crate."""
     types = set()
-    for file in sources.rglob("*.rt"):
+    for file in (CRATES / crate / "src").rglob("*.rt"):
         types.update(re.findall(r"^pub (?:struct|enum|trait) (\w+)", file.read_text(encoding="utf-8"), re.M))
-    parts = [f"`{name}`" for name in sorted(types)]
-    if len(types) < 3:
-        tests = sources / "tests"
-        files = {file for file in (tests if tests.is_dir() else sources).glob("*.rt")}
-        files |= set((sources / "commands").glob("*.rt"))
-        names = sorted({file.stem for file in files} - {"lib", "main", "laws"})
-        parts += [("files " if i == 0 else "") + f"`{name}`" for i, name in enumerate(names)]
-    return ", ".join(parts)
+    return ", ".join(f"`{name}`" for name in sorted(types))
 
 
 def row_of(crate, proved):
@@ -120,8 +114,9 @@ def row_of(crate, proved):
         sentence = f"**program `{users[0]}`**: {sentence}"
     elif root.endswith("main.rt"):
         sentence = f"**program**: {sentence}"
-    link = f"[proved](../docs/proofs/{proved[crate]}#{crate})" if crate in proved else ""
-    return f"| [`{crate}`]({root}) | {sentence} | {parts_of(crate)} | {link} |"
+    links = [f"[files](FILES.md#{crate})"]
+    links += [f"[proved](../docs/proofs/{proved[crate]}#{crate})"] if crate in proved else []
+    return f"| [`{crate}`]({root}) | {sentence} | {types_of(crate)} | {', '.join(links)} |"
 
 
 def map_text():
@@ -134,7 +129,7 @@ def map_text():
         then = ", ".join(f"[`{it}`]({root_of(it)}) {does}" for it, does in others.items() if (CRATES / it).is_dir())
         parts.append(f"| {when} | {call} in [{file}]({file}) | {then} | [steps]({ARCHITECTURE}#{section}) |")
     for name, crates in groups():
-        parts += ["", f"## {name}", "", "| crate | is | has | |", "|---|---|---|---|"]
+        parts += ["", f"## {name}", "", "| crate | is | types | |", "|---|---|---|---|"]
         parts += [row_of(crate, proved) for crate in crates]
     named = {crate for _, crates in groups() for crate in crates}
     for folder in sorted(CRATES.iterdir()):
@@ -162,7 +157,8 @@ def main():
         return 2
     status = 0
     try:
-        for file, text in ((MAP, map_text()), (PROOFS / "README.md", proofs_text())):
+        pages = {MAP: map_text(), FILES: files_text(CRATES, groups()), PROOFS / "README.md": proofs_text()}
+        for file, text in pages.items():
             if file.is_file() and file.read_text(encoding="utf-8") == text:
                 continue
             if sys.argv[1] == "--write":

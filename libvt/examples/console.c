@@ -9,7 +9,7 @@
 #include <termios.h>
 #include <unistd.h>
 
-enum { PIECE = 65536, OUTS = 64 };
+enum { PIECE = 65536, OUTS = 64, ROOM = 16 * MOST_COLS };
 
 /* The program's side: a session of its own, with the pseudo-terminal as its terminal. */
 static void run(const char *name, char **command, const struct winsize *size)
@@ -43,7 +43,10 @@ static void run(const char *name, char **command, const struct winsize *size)
 int start_console(struct console *c, char **command, const struct winsize *size)
 {
     static const struct vt_key_state start = VT_KEY_STATE_START;
-    if (vt_screen_new(&c->screen, size->ws_row, size->ws_col) != VT_OK) {
+    c->kept = malloc(KEPT * sizeof *c->kept);
+    if (!c->kept || vt_screen_new(&c->screen, size->ws_row, size->ws_col) != VT_OK) {
+        free(c->kept);
+        c->kept = NULL;
         errno = ENOMEM;
         return 4;
     }
@@ -70,6 +73,9 @@ int start_console(struct console *c, char **command, const struct winsize *size)
 void close_console(struct console *c)
 {
     vt_screen_free(&c->screen);
+    free(c->kept);
+    c->kept = NULL;
+    c->fallen = c->back = 0;
     if (c->master >= 0)
         close(c->master);
     c->master = -1;
@@ -106,16 +112,45 @@ static void answer(struct console *c, const struct vt_out *out)
     }
 }
 
+/* Keeps a row that fell out, with blanks behind its cells; what is shown above the screen stays where it is. */
+static void keep(struct console *c, const struct vt_cell *cells, size_t cols)
+{
+    static const struct vt_cell blank = { .code = ' ', .attr = 7 };
+    struct vt_cell *row = c->kept[c->fallen++ % KEPT];
+    for (size_t x = 0; x < MOST_COLS; x++)
+        row[x] = x < cols ? cells[x] : blank;
+    scroll_console(c, c->back > 0 ? 1 : 0);
+}
+
 static void feed(struct console *c, const uint8_t *bytes, size_t length)
 {
+    static struct vt_cell cells[ROOM];
     struct vt_out outs[OUTS];
     struct vt_fed fed;
+    struct vt_state state;
+    vt_screen_state(&c->screen, &state);
     for (size_t at = 0; at < length; at += fed.taken) {
-        if (vt_screen_feed(&c->screen, bytes + at, length - at, outs, OUTS, &fed) != VT_OK)
+        if (vt_screen_feed_rows(&c->screen, bytes + at, length - at, outs, OUTS, cells, ROOM, &fed) != VT_OK)
             return;
         for (size_t i = 0; i < fed.outs; i++)
             answer(c, &outs[i]);
+        for (size_t i = 0; i < fed.rows; i++)
+            keep(c, cells + i * state.cols, state.cols);
     }
+}
+
+void scroll_console(struct console *c, long rows)
+{
+    size_t most = c->fallen < KEPT ? c->fallen : KEPT;
+    if (rows < 0)
+        c->back -= c->back < (size_t)-rows ? c->back : (size_t)-rows;
+    else
+        c->back = most - c->back < (size_t)rows ? most : c->back + (size_t)rows;
+}
+
+const struct vt_cell *kept_row(const struct console *c, size_t above)
+{
+    return c->kept[(c->fallen - above) % KEPT];
 }
 
 ssize_t read_output(struct console *c, FILE *record)

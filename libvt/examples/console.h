@@ -2,6 +2,7 @@
 #ifndef CONSOLE_H
 #define CONSOLE_H
 
+#include "cells.h"
 #include <stdbool.h>
 #include <stdint.h>
 #include <stdio.h>
@@ -9,7 +10,7 @@
 #include <sys/types.h>
 #include <vt.h>
 
-enum { INPUT = 65536, LAST_CONSOLE = 255 };
+enum { INPUT = 65536, LAST_CONSOLE = 255, KEPT = 1000 };
 
 struct console {
     struct vt_screen screen;
@@ -20,6 +21,9 @@ struct console {
     uint32_t asked;          /* the console that the program asked for, LAST_CONSOLE, or 0 */
     uint8_t input[INPUT];    /* what its terminal hasn't taken yet */
     size_t input_length;
+    struct vt_cell (*kept)[MOST_COLS]; /* the last rows that fell out at the top of the screen, by turns */
+    size_t fallen;                     /* how many rows fell out */
+    size_t back;                       /* how many of them stand above the rows that are shown, from below */
 };
 
 /* Whether a console was started and isn't closed. */
@@ -44,6 +48,12 @@ void write_input(struct console *c);
 /* Reads what the program wrote, draws it on the screen, answers what it asks for, and writes it into the record if
  * there is one: how many bytes, 0 if there is nothing yet, -1 at the end. */
 ssize_t read_output(struct console *c, FILE *record);
+
+/* Goes back so many more rows of those that fell out, or forth if it is less than 0, as far as rows are kept. */
+void scroll_console(struct console *c, long rows);
+
+/* The kept row that is so many above the screen, from 1: MOST_COLS cells. */
+const struct vt_cell *kept_row(const struct console *c, size_t above);
 
 /* Gives the console another size; false: memory ran out, and it keeps its own. */
 bool resize_console(struct console *c, const struct winsize *size);

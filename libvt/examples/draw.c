@@ -45,11 +45,9 @@ static void print_pen(uint8_t attr)
     putchar('m');
 }
 
-static void draw_row(const struct vt_screen *screen, const struct vt_state *state, int y)
+static void draw_cells(const struct vt_cell *cells, const struct vt_state *state, int y)
 {
-    static struct vt_cell cells[MOST_COLS];
     char text[5];
-    vt_screen_row(screen, (uint32_t)y, cells, MOST_COLS);
     printf("\033[%d;1H", y + 1);
     for (int x = 0; x < state->cols; x++) {
         if (cells[x].code == VT_HALF)
@@ -61,6 +59,13 @@ static void draw_row(const struct vt_screen *screen, const struct vt_state *stat
         if (cells[x].code >= 0x300 && x + 1 < state->cols)
             printf("\033[%dG", x + (cells[x + 1].code == VT_HALF ? 3 : 2));
     }
+}
+
+static void draw_row(const struct vt_screen *screen, const struct vt_state *state, int row, int y)
+{
+    static struct vt_cell cells[MOST_COLS];
+    vt_screen_row(screen, (uint32_t)row, cells, MOST_COLS);
+    draw_cells(cells, state, y);
 }
 
 void begin_drawing(const struct vt_screen *screen)
@@ -84,6 +89,23 @@ void draw_status(int row, int cols, const char *text)
     printf("\033[%d;1H\033[0;30;47m%-*.*s", row + 1, cols, cols, text);
 }
 
+bool draw_back(const struct vt_screen *screen, const struct vt_cell *const *rows, int count)
+{
+    struct vt_state state;
+    if (vt_screen_state(screen, &state) != VT_OK)
+        return false;
+    read_colours(screen);
+    fputs("\033[?25l", stdout);
+    for (int y = 0; y < state.rows; y++) {
+        if (y < count)
+            draw_cells(rows[y], &state, y);
+        else
+            draw_row(screen, &state, y - count, y);
+    }
+    fputs("\033[0m", stdout);
+    return fflush(stdout) == 0;
+}
+
 bool draw_screen(struct vt_screen *screen, bool is_whole)
 {
     struct vt_state state;
@@ -96,7 +118,7 @@ bool draw_screen(struct vt_screen *screen, bool is_whole)
     fputs("\033[?25l", stdout);
     for (int y = 0; y < state.rows; y++)
         if (is_whole || changed[y])
-            draw_row(screen, &state, y);
+            draw_row(screen, &state, y, y);
     printf("\033[0m\033[%d;%dH%s", state.y + 1, state.x + 1, state.visible ? "\033[?25h" : "");
     vt_screen_mark(screen); /* without memory for it every row is drawn again */
     return fflush(stdout) == 0;

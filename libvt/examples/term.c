@@ -5,8 +5,10 @@
  *     ./term [--status] [--record FILE] [--picture FILE] [COMMAND ..]
  *
  * Console 1 runs the command, or $SHELL. Alt+F1 to Alt+F6 bring a console to the front, Alt+Left and Alt+Right the one
- * before and the next one; a console that isn't there yet gets a shell. A console is closed with its program, and the
- * terminal ends with the last one, with the status of console 1's. --status shows the consoles in the last row.
+ * before and the next one; a console that isn't there yet gets a shell. Shift+PageUp and Shift+PageDown go through the
+ * rows that fell out at the top, half a screen at a time; another key shows the screen again. A console is closed with
+ * its program, and the terminal ends with the last one, with the status of console 1's. --status shows the consoles in
+ * the last row.
  * --record keeps what the command wrote, as `vt screen` reads it; --picture writes console 1's last screen in SVG.
  *
  * Status 1: other words, or no terminal on standard input and output; 2: a file can't be written; 3: the terminal
@@ -119,6 +121,18 @@ static void act(const struct vt_key *key)
     }
 }
 
+/* Shows rows above the screen, or below them, if the bytes begin with Shift+PageUp or Shift+PageDown; how many bytes
+ * that takes. */
+static size_t scroll(struct console *c, const char *bytes, size_t length, long rows)
+{
+    static const char up[] = "\033[5;2~", down[] = "\033[6;2~";
+    size_t count = sizeof up - 1;
+    bool is_up = length >= count && memcmp(bytes, up, count) == 0;
+    bool is_down = length >= count && memcmp(bytes, down, count) == 0;
+    scroll_console(c, is_up ? rows : is_down ? -rows : -KEPT);
+    return is_up || is_down ? count : 0;
+}
+
 /* Types what came from the terminal, each key into the console that is in front then. */
 static void type(const char *bytes, size_t length)
 {
@@ -127,6 +141,11 @@ static void type(const char *bytes, size_t length)
         struct vt_state state = { 0 };
         struct vt_key key;
         vt_screen_state(&c->screen, &state);
+        size_t back = c->back, taken = scroll(c, bytes + at, length - at, (state.rows + 1) / 2);
+        is_whole = is_whole || c->back != back;
+        at += taken;
+        if (taken > 0)
+            continue;
         at += take_key(&keyboard, bytes + at, length - at, &state.modes, &c->keys, &key);
         act(&key);
     }
@@ -155,6 +174,18 @@ static void resize(void)
     is_whole = true;
 }
 
+/* Draws the screen, or the rows above it that one went back to. */
+static bool draw_front(struct console *c)
+{
+    const struct vt_cell *rows[MOST_ROWS];
+    int count = 0;
+    if (c->back == 0)
+        return draw_screen(&c->screen, is_whole);
+    for (size_t above = c->back; above > 0 && count < MOST_ROWS; above--)
+        rows[count++] = kept_row(c, above);
+    return draw_back(&c->screen, rows, count);
+}
+
 static void draw(void)
 {
     struct winsize size = size_of_consoles();
@@ -164,7 +195,7 @@ static void draw(void)
             end += sprintf(end, n == front ? "[%u]" : " %u ", n);
     if (has_status && is_whole)
         draw_status(size.ws_row, size.ws_col, text);
-    if (!draw_screen(&consoles[front].screen, is_whole))
+    if (!draw_front(&consoles[front]))
         fail(3, "the terminal can't be written");
     is_whole = false;
 }

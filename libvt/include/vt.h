@@ -86,10 +86,10 @@ struct vt_out {
     uint32_t spare[3];
 };
 
-/* How many bytes a feed took, and how many places of `outs` it wrote. */
+/* How many bytes a feed took, how many places of `outs` it wrote, and how many rows fell out (vt_screen_feed_rows). */
 struct vt_fed {
-    size_t taken, outs;
-    size_t spare[2];
+    size_t taken, outs, rows;
+    size_t spare[1];
 };
 
 /* Codes of cells that are no characters. 0xF000 to 0xF0FF are the places 0 to 255 of the console's font, which the null
@@ -154,6 +154,15 @@ void vt_screen_free(struct vt_screen *s);
 uint8_t vt_screen_feed(struct vt_screen *s, const uint8_t *bytes, size_t n, struct vt_out *outs, size_t room,
                        struct vt_fed *fed);
 
+/* Draws a text as vt_screen_feed does, and gives the rows that fall out at the top: by a line feed, or a character that
+ * goes to the next row, in the last row of a region that begins with the screen's first row. What is deleted or erased,
+ * and what a resize loses, doesn't fall out. fed->rows is how many rows fell out; their cells, row by row, are the
+ * first fed->rows * cols of `cells`, and the other places stay. Nothing is lost: a byte moves two rows out at most, and
+ * the call also ends when fewer than two have room. `room` is for side effects, `cells_room` for cells. VT_NO_ROOM
+ * (fewer than two rows have room; nothing was drawn), VT_NOTHING. */
+uint8_t vt_screen_feed_rows(struct vt_screen *s, const uint8_t *bytes, size_t n, struct vt_out *outs, size_t room,
+                            struct vt_cell *cells, size_t cells_room, struct vt_fed *fed);
+
 /* Draws a whole text, and drops what it asks for. VT_NOTHING. */
 uint8_t vt_screen_write(struct vt_screen *s, const uint8_t *bytes, size_t n);
 
@@ -196,8 +205,14 @@ uint8_t vt_screen_set_colour(struct vt_screen *s, uint32_t number, uint8_t red, 
 /* Sets the user's table of characters (ESC ( K): a code for each byte. VT_NOTHING. */
 uint8_t vt_screen_set_user(struct vt_screen *s, const uint16_t words[256]);
 
+#ifdef __cplusplus
+#define VT_SIZE(n) static_cast<size_t>(n)
+#else
+#define VT_SIZE(n) ((size_t)(n))
+#endif
+
 /* The most bytes of the text of a redraw, for a screen of so many rows and columns. */
-#define VT_REDRAW_MOST(rows, cols) ((size_t)(rows) * (18 * (size_t)(cols) + 8) + 26 * (size_t)(cols) + 377)
+#define VT_REDRAW_MOST(rows, cols) (VT_SIZE(rows) * (18 * VT_SIZE(cols) + 8) + 26 * VT_SIZE(cols) + 377)
 
 /* The text that draws this screen on any terminal of its size that runs the sequences of console_codes(4) and waits for
  * no more of one. *length is how long it is, at VT_OK and VT_NO_ROOM. VT_NOT_DRAWABLE, VT_NO_MEMORY, VT_NOTHING,
@@ -508,9 +523,31 @@ uint8_t vt_machine_console(const struct vt_machine *m, uint32_t n, struct vt_con
 /* The cells of a row of a console, as vt_screen_row. VT_RANGE, VT_NOTHING. */
 uint8_t vt_machine_row(const struct vt_machine *m, uint32_t n, uint32_t row, struct vt_cell *cells, size_t room);
 
+/* All cells of a console, row by row from the top left, as many as there is room for; the other places stay. VT_RANGE,
+ * VT_NOTHING. */
+uint8_t vt_machine_cells(const struct vt_machine *m, uint32_t n, struct vt_cell *cells, size_t room);
+
 /* The text that draws a console's screen, as vt_screen_redraw. VT_RANGE, VT_NOT_DRAWABLE, VT_NO_MEMORY, VT_NOTHING,
  * VT_NO_ROOM. */
 uint8_t vt_machine_redraw(const struct vt_machine *m, uint32_t n, uint8_t *text, size_t room, size_t *length);
+
+/* The same for a terminal that shows other cells: only rows that differ are in the text. The terminal has `cols`
+ * columns and shows `count` cells, row by row from the top left, as vt_machine_cells or vt_screen_cells gave them.
+ * VT_RANGE: also if the terminal hasn't the console's size, or a spare byte is set. VT_NOT_DRAWABLE, VT_NO_MEMORY,
+ * VT_NOTHING, VT_NO_ROOM. */
+uint8_t vt_machine_redraw_changes(const struct vt_machine *m, uint32_t n, const struct vt_cell *shown, size_t count,
+                                  uint32_t cols, uint8_t *text, size_t room, size_t *length);
+
+/* vt_machine_redraw of the nearest screen that a text draws, as vt_screen_redraw_near. VT_RANGE, VT_NO_MEMORY,
+ * VT_NOTHING, VT_NO_ROOM. */
+uint8_t vt_machine_redraw_near(const struct vt_machine *m, uint32_t n, uint8_t *text, size_t room, size_t *length);
+
+/* vt_machine_redraw_changes of that screen. VT_RANGE, VT_NO_MEMORY, VT_NOTHING, VT_NO_ROOM. */
+uint8_t vt_machine_redraw_changes_near(const struct vt_machine *m, uint32_t n, const struct vt_cell *shown,
+                                       size_t count, uint32_t cols, uint8_t *text, size_t room, size_t *length);
+
+/* A console's screen as a picture, as vt_screen_picture. VT_RANGE, VT_NO_MEMORY, VT_NOTHING, VT_NO_ROOM. */
+uint8_t vt_machine_picture(const struct vt_machine *m, uint32_t n, uint8_t *text, size_t room, size_t *length);
 
 /* The line of an entry of the journal, counted from 0, with its line feed. VT_RANGE, VT_NO_MEMORY, VT_NOTHING,
  * VT_NO_ROOM. */

@@ -15,6 +15,8 @@
 /* The proved calls that want pointers that aren't null. */
 uint8_t vt_nonnull_screen_feed(struct vt_screen *s, const uint8_t *bytes, size_t n, struct vt_out *outs, size_t room,
                                struct vt_fed *fed);
+uint8_t vt_nonnull_screen_feed_rows(struct vt_screen *s, const uint8_t *bytes, size_t n, struct vt_out *outs,
+                                    size_t room, struct vt_cell *cells, size_t cells_room, struct vt_fed *fed);
 uint8_t vt_nonnull_screen_write(struct vt_screen *s, const uint8_t *bytes, size_t n);
 uint8_t vt_nonnull_keys_new(struct vt_keys *k, const uint8_t *text, size_t n, const struct vt_text *texts, size_t count,
                             struct vt_fault *fault);
@@ -50,7 +52,14 @@ uint8_t vt_lent_machine_wait(struct vt_machine *loan, uint32_t caller, uint8_t *
 uint8_t vt_lent_machine_display(struct vt_machine *loan, struct vt_display *display);
 uint8_t vt_lent_machine_console(struct vt_machine *loan, uint32_t n, struct vt_console *console);
 uint8_t vt_lent_machine_row(struct vt_machine *loan, uint32_t n, uint32_t row, struct vt_cell *cells, size_t room);
+uint8_t vt_lent_machine_cells(struct vt_machine *loan, uint32_t n, struct vt_cell *cells, size_t room);
 uint8_t vt_lent_machine_redraw(struct vt_machine *loan, uint32_t n, uint8_t *text, size_t room, size_t *length);
+uint8_t vt_lent_machine_redraw_changes(struct vt_machine *loan, uint32_t n, const struct vt_cell *shown, size_t count,
+                                       uint32_t cols, uint8_t *text, size_t room, size_t *length);
+uint8_t vt_lent_machine_redraw_near(struct vt_machine *loan, uint32_t n, uint8_t *text, size_t room, size_t *length);
+uint8_t vt_lent_machine_redraw_changes_near(struct vt_machine *loan, uint32_t n, const struct vt_cell *shown,
+                                            size_t count, uint32_t cols, uint8_t *text, size_t room, size_t *length);
+uint8_t vt_lent_machine_picture(struct vt_machine *loan, uint32_t n, uint8_t *text, size_t room, size_t *length);
 uint8_t vt_lent_machine_entry(struct vt_machine *loan, uint32_t index, uint8_t *text, size_t room, size_t *length);
 uint8_t vt_lent_machine_journal(struct vt_machine *loan, uint8_t *text, size_t room, size_t *length);
 
@@ -76,6 +85,13 @@ uint8_t vt_screen_feed(struct vt_screen *s, const uint8_t *bytes, size_t n, stru
                        struct vt_fed *fed)
 {
     return vt_nonnull_screen_feed(s, read_at(bytes), n, written_at(outs), room, fed);
+}
+
+uint8_t vt_screen_feed_rows(struct vt_screen *s, const uint8_t *bytes, size_t n, struct vt_out *outs, size_t room,
+                            struct vt_cell *cells, size_t cells_room, struct vt_fed *fed)
+{
+    return vt_nonnull_screen_feed_rows(s, read_at(bytes), n, written_at(outs), room, written_at(cells), cells_room,
+                                       fed);
 }
 
 uint8_t vt_screen_write(struct vt_screen *s, const uint8_t *bytes, size_t n)
@@ -248,10 +264,42 @@ uint8_t vt_machine_row(const struct vt_machine *m, uint32_t n, uint32_t row, str
     return vt_lent_machine_row(&loan, n, row, written_at(cells), room);
 }
 
+uint8_t vt_machine_cells(const struct vt_machine *m, uint32_t n, struct vt_cell *cells, size_t room)
+{
+    struct vt_machine loan = *m;
+    return vt_lent_machine_cells(&loan, n, written_at(cells), room);
+}
+
 uint8_t vt_machine_redraw(const struct vt_machine *m, uint32_t n, uint8_t *text, size_t room, size_t *length)
 {
     struct vt_machine loan = *m;
     return vt_lent_machine_redraw(&loan, n, written_at(text), room, length);
+}
+
+uint8_t vt_machine_redraw_changes(const struct vt_machine *m, uint32_t n, const struct vt_cell *shown, size_t count,
+                                  uint32_t cols, uint8_t *text, size_t room, size_t *length)
+{
+    struct vt_machine loan = *m;
+    return vt_lent_machine_redraw_changes(&loan, n, read_at(shown), count, cols, written_at(text), room, length);
+}
+
+uint8_t vt_machine_redraw_near(const struct vt_machine *m, uint32_t n, uint8_t *text, size_t room, size_t *length)
+{
+    struct vt_machine loan = *m;
+    return vt_lent_machine_redraw_near(&loan, n, written_at(text), room, length);
+}
+
+uint8_t vt_machine_redraw_changes_near(const struct vt_machine *m, uint32_t n, const struct vt_cell *shown,
+                                       size_t count, uint32_t cols, uint8_t *text, size_t room, size_t *length)
+{
+    struct vt_machine loan = *m;
+    return vt_lent_machine_redraw_changes_near(&loan, n, read_at(shown), count, cols, written_at(text), room, length);
+}
+
+uint8_t vt_machine_picture(const struct vt_machine *m, uint32_t n, uint8_t *text, size_t room, size_t *length)
+{
+    struct vt_machine loan = *m;
+    return vt_lent_machine_picture(&loan, n, written_at(text), room, length);
 }
 
 uint8_t vt_machine_entry(const struct vt_machine *m, uint32_t index, uint8_t *text, size_t room, size_t *length)

@@ -35,7 +35,7 @@ static void feed(struct vt_screen *s, const uint8_t *piece, size_t n, struct vt_
 {
     static const struct vt_out mark = { .kind = 77, .number = 88, .length = 3, .text = "..." };
     for (size_t at = 0; at < n;) {
-        struct vt_fed fed = { 0, 0, { 0, 0 } };
+        struct vt_fed fed = { 0, 0, 0, { 0 } };
         for (size_t i = 0; i <= room; i++)
             outs[i] = mark;
         uint8_t *exact = malloc(n - at); /* so that a read past its end is seen */

@@ -191,6 +191,47 @@ static inline void read_journal(void)
     free(text);
 }
 
+/* Whether a screen of the console's size shows its cells. */
+static inline bool shows_console(const struct vt_screen *s, uint32_t n, const struct vt_console *c)
+{
+    size_t count = (size_t)c->rows * c->cols;
+    struct vt_cell *cells = malloc(2 * count * sizeof *cells);
+    must(cells != NULL && vt_machine_cells(&machine.at, n, cells, count) == VT_OK);
+    must(vt_screen_cells(s, cells + count, count) == VT_OK);
+    bool is_so = memcmp(cells, cells + count, count * sizeof *cells) == 0;
+    free(cells);
+    return is_so;
+}
+
+/* What differs from other cells makes the console on a screen that shows those; cells of another size are refused. */
+static inline void change_console(uint32_t n, const struct vt_console *c)
+{
+    struct vt_screen other = { 0 };
+    size_t count = (size_t)c->rows * c->cols, length = 0, again;
+    uint32_t cols = c->cols;
+    if (c->rows > MOST_ROWS)
+        return;
+    static const uint8_t drawn[] = "a\033[7mbc\r\n\xE4\xB8\xAD\033[2;3r\033[?6h\033(0d\n\033[31me";
+    must(vt_screen_new(&other, c->rows, cols) == VT_OK && vt_screen_write(&other, drawn, sizeof drawn - 1) == VT_OK);
+    struct vt_cell *shown = malloc(count * sizeof *shown);
+    must(shown != NULL && vt_screen_cells(&other, shown, count) == VT_OK);
+    must(vt_machine_redraw_changes(&machine.at, n, shown, count - 1, cols, NULL, 0, &length) == VT_RANGE);
+    must(vt_machine_redraw_changes(&machine.at, n, shown, count, cols + 1, NULL, 0, &length) == VT_RANGE);
+    uint8_t code = vt_machine_redraw_changes(&machine.at, n, shown, count, cols, NULL, 0, &length);
+    must(code == VT_NO_ROOM || code == VT_NOT_DRAWABLE);
+    bool is_near = code == VT_NOT_DRAWABLE;
+    must(vt_machine_redraw_changes_near(&machine.at, n, shown, count, cols, NULL, 0, is_near ? &length : &again) ==
+         VT_NO_ROOM);
+    must((is_near || again == length) && length <= VT_REDRAW_MOST(c->rows, cols));
+    uint8_t *text = malloc(length);
+    must(text != NULL && (is_near ? vt_machine_redraw_changes_near : vt_machine_redraw_changes)(
+                             &machine.at, n, shown, count, cols, text, length, &again) == VT_OK && again == length);
+    must(vt_screen_write(&other, text, length) == VT_OK && (is_near || shows_console(&other, n, c)));
+    vt_screen_free(&other);
+    free(shown);
+    free(text);
+}
+
 /* The redraw of a console makes its cells on a screen of its size. */
 static inline void redraw_console(uint32_t n, const struct vt_console *c)
 {
@@ -231,8 +272,10 @@ static inline void look_at_machine(void)
     must(code != VT_OK || (n >= 1 && n <= 63 && c.y < c.rows && c.x < c.cols && c.queued <= 4096));
     if (wanted == VT_OK)
         must(vt_machine_console(&machine.at, machine.shown.front, &c) == VT_OK);
-    if (wanted == VT_OK && byte() % 8 == 0)
+    if (wanted == VT_OK && byte() % 8 == 0) {
         redraw_console(machine.shown.front, &c);
+        change_console(machine.shown.front, &c);
+    }
 }
 
 static inline void on_machine(void)

@@ -10,7 +10,7 @@ int main(void)
     STRUCT(vt_screen), FIELD(vt_screen, at), STRUCT(vt_keys), FIELD(vt_keys, at);
     STRUCT(vt_out), FIELD(vt_out, kind), FIELD(vt_out, length), FIELD(vt_out, number), FIELD(vt_out, text);
     FIELD(vt_out, spare);
-    STRUCT(vt_fed), FIELD(vt_fed, taken), FIELD(vt_fed, outs), FIELD(vt_fed, spare);
+    STRUCT(vt_fed), FIELD(vt_fed, taken), FIELD(vt_fed, outs), FIELD(vt_fed, rows), FIELD(vt_fed, spare);
     STRUCT(vt_cell), FIELD(vt_cell, code), FIELD(vt_cell, attr), FIELD(vt_cell, spare);
     STRUCT(vt_modes), FIELD(vt_modes, cursor_keys), FIELD(vt_modes, keypad), FIELD(vt_modes, repeat);
     FIELD(vt_modes, newline_mode), FIELD(vt_modes, spare);

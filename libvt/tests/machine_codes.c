@@ -195,6 +195,14 @@ static void try_consoles(void)
     WANT(vt_machine_row(&m, 1, 4, cells, 1) == VT_RANGE && vt_machine_row(&m, 3, 0, cells, 1) == VT_RANGE);
     WANT(vt_machine_row(&m, 0, 0, cells, 1) == VT_RANGE && vt_machine_row(&m, 64, 0, cells, 1) == VT_RANGE);
     WANT(cells[0].code == 'o');
+    struct vt_cell all[37];
+    memset(all, 99, sizeof all);
+    WANT(vt_machine_cells(&m, 1, all, 37) == VT_OK && all[0].code == 'o' && all[9].code == 't' && all[10].code == 'w');
+    WANT(all[35].code == ' ' && all[35].spare[0] == 0 && all[36].attr == 99); /* (4 rows of 9 columns) */
+    WANT(vt_machine_cells(&m, 1, all + 3, 1) == VT_OK && all[3].code == 'o' && all[4].code == ' ');
+    WANT(vt_machine_cells(&m, 1, NULL, 0) == VT_OK);
+    WANT(vt_machine_cells(&m, 3, all, 1) == VT_RANGE && vt_machine_cells(&m, 0, all, 1) == VT_RANGE);
+    WANT(vt_machine_cells(&m, 64, all, 1) == VT_RANGE && all[0].code == 'o');
     vt_machine_free(&m);
 }
 
@@ -222,6 +230,113 @@ static void try_redraw(void)
     call(1, "write", N(0), "\033%@\033[3h\x01");
     WANT(vt_machine_redraw(&m, 1, text, sizeof text, &again) == VT_NOT_DRAWABLE && again == length);
     vt_machine_free(&m);
+}
+
+/* Whether a screen shows the cells of console 1, which has 3 rows of 10 columns. */
+static bool shows_console(const struct vt_screen *s)
+{
+    struct vt_cell shown[30], wanted[30];
+    memset(shown, 1, sizeof shown), memset(wanted, 2, sizeof wanted);
+    return vt_screen_cells(s, shown, 30) == VT_OK && vt_machine_cells(&m, 1, wanted, 30) == VT_OK &&
+           memcmp(shown, wanted, sizeof shown) == 0;
+}
+
+/* Two terminals that watch a console: each gets the rows that differ from its own cells. */
+static void try_changes(void)
+{
+    static uint8_t text[4096], other[4096];
+    struct vt_screen near = { 0 }, far = { 0 };
+    struct vt_cell shown[30], blank[30];
+    size_t length = 0, again = 9;
+    WANT(make(&START, SEATS, 3) == VT_OK && vt_screen_new(&near, 3, 10) == VT_OK && vt_screen_new(&far, 3, 10) == VT_OK);
+    WANT(vt_screen_cells(&far, blank, 30) == VT_OK);
+    call(1, "open", N(1), NULL), call(1, "write", N(0), "one\r\n\033[1;32mgr\xC3\xBC");
+    WANT(vt_machine_redraw(&m, 1, text, sizeof text, &length) == VT_OK && vt_screen_write(&near, text, length) == VT_OK);
+    WANT(shows_console(&near) && !shows_console(&far) && vt_machine_cells(&m, 1, shown, 30) == VT_OK);
+    call(1, "write", N(0), "\033[3;4Hthree");
+    WANT(vt_machine_redraw_changes(&m, 1, shown, 30, 10, NULL, 0, &length) == VT_NO_ROOM && length < sizeof text);
+    WANT(vt_machine_redraw_changes(&m, 1, shown, 30, 10, text, length - 1, &again) == VT_NO_ROOM && again == length);
+    WANT(vt_machine_redraw_changes(&m, 1, shown, 30, 10, text, length, &again) == VT_OK && again == length);
+    WANT(vt_machine_redraw_changes(&m, 1, blank, 30, 10, other, sizeof other, &again) == VT_OK && again > length);
+    WANT(!shows_console(&near) && vt_screen_write(&near, text, length) == VT_OK && shows_console(&near));
+    WANT(!shows_console(&far) && vt_screen_write(&far, text, length) == VT_OK && !shows_console(&far));
+    WANT(vt_screen_write(&far, other, again) == VT_OK && shows_console(&far));
+    WANT(vt_machine_redraw_changes_near(&m, 1, shown, 30, 10, other, sizeof other, &again) == VT_OK && again == length);
+    WANT(memcmp(text, other, length) == 0);
+    vt_screen_free(&near), vt_screen_free(&far), vt_machine_free(&m);
+}
+
+/* Cells of another size, or with a spare byte, are refused; and a console that isn't there, in this order. */
+static void try_other_cells(void)
+{
+    uint8_t text[8] = { 77 };
+    struct vt_cell shown[31] = { { .code = 'x' } };
+    size_t length = 9;
+    WANT(make(&START, SEATS, 3) == VT_OK);
+    call(1, "open", N(1), NULL), call(1, "write", N(0), "\033%@\033[3h\x01"); /* (no text draws it) */
+    for (int near = 0; near < 2; near++) {
+        uint8_t (*const changes)(const struct vt_machine *, uint32_t, const struct vt_cell *, size_t, uint32_t,
+                                 uint8_t *, size_t, size_t *) =
+            near ? vt_machine_redraw_changes_near : vt_machine_redraw_changes;
+        WANT(changes(&m, 0, shown, 30, 10, text, 8, &length) == VT_RANGE);
+        WANT(changes(&m, 3, shown, 30, 10, text, 8, &length) == VT_RANGE);
+        WANT(changes(&m, 64, shown, 30, 10, text, 8, &length) == VT_RANGE);
+        WANT(changes(&m, 1, shown, 31, 10, text, 8, &length) == VT_RANGE);
+        WANT(changes(&m, 1, shown, 29, 10, text, 8, &length) == VT_RANGE);
+        WANT(changes(&m, 1, shown, 30, 15, text, 8, &length) == VT_RANGE);
+        WANT(changes(&m, 1, shown, 30, 266, text, 8, &length) == VT_RANGE); /* (10 in one byte) */
+        WANT(changes(&m, 1, NULL, 0, 10, text, 8, &length) == VT_RANGE);
+        shown[29].spare[2] = 1;
+        WANT(changes(&m, 1, shown, 30, 10, text, 8, &length) == VT_RANGE);
+        shown[29].spare[2] = 0;
+        WANT(length == 9 && text[0] == 77);
+    }
+    WANT(vt_machine_redraw_changes(&m, 1, shown, 30, 10, text, 8, &length) == VT_NOT_DRAWABLE && length == 9);
+    WANT(vt_machine_redraw_changes_near(&m, 1, shown, 30, 10, text, 8, &length) == VT_NO_ROOM && length > 9);
+    WANT(text[0] == 77);
+    vt_machine_free(&m);
+}
+
+/* The nearest screen of one that no text draws: what isn't a character is U+FFFD in its colours. */
+static void try_near(void)
+{
+    static uint8_t text[4096];
+    struct vt_screen s = { 0 };
+    struct vt_cell shown[30], again_shown[30];
+    size_t length = 0, again = 9;
+    WANT(make(&START, SEATS, 3) == VT_OK && vt_screen_new(&s, 3, 10) == VT_OK);
+    call(1, "open", N(1), NULL), call(1, "write", N(0), "a\033[31m\033%@\033[3h\x01");
+    WANT(vt_machine_redraw_near(&m, 3, text, 9, &again) == VT_RANGE);
+    WANT(vt_machine_redraw_near(&m, 0, text, 9, &again) == VT_RANGE && again == 9);
+    WANT(vt_machine_redraw_near(&m, 1, NULL, 0, &length) == VT_NO_ROOM && length > 0 && length < sizeof text);
+    WANT(vt_machine_redraw_near(&m, 1, text, length - 1, &again) == VT_NO_ROOM && again == length && text[0] == 0);
+    WANT(vt_machine_redraw_near(&m, 1, text, length, &again) == VT_OK && again == length);
+    WANT(vt_screen_write(&s, text, length) == VT_OK && vt_screen_cells(&s, shown, 30) == VT_OK);
+    WANT(shown[0].code == 'a' && shown[1].code == 0xFFFD && shown[1].attr == 4); /* (red) */
+    /* A screen that got the same text has the cells of the terminal: no row differs. */
+    WANT(vt_machine_redraw_changes_near(&m, 1, shown, 30, 10, text, sizeof text, &again) == VT_OK && again < length);
+    WANT(memchr(text, 'a', again) == NULL && vt_screen_write(&s, text, again) == VT_OK);
+    WANT(vt_screen_cells(&s, again_shown, 30) == VT_OK && memcmp(shown, again_shown, sizeof shown) == 0);
+    vt_screen_free(&s), vt_machine_free(&m);
+}
+
+/* The picture of a console is that of a screen that shows the same. */
+static void try_picture(void)
+{
+    static uint8_t text[4096], wanted[16384], found[16384];
+    struct vt_screen s = { 0 };
+    size_t length = 0, again = 9;
+    WANT(make(&START, SEATS, 3) == VT_OK && vt_screen_new(&s, 3, 10) == VT_OK);
+    call(1, "open", N(1), NULL), call(1, "write", N(0), "\033[1;32mgr\xC3\xBC\r\n\033[7mb");
+    WANT(vt_machine_picture(&m, 3, found, 9, &again) == VT_RANGE);
+    WANT(vt_machine_picture(&m, 0, found, 9, &again) == VT_RANGE && again == 9);
+    WANT(vt_machine_redraw(&m, 1, text, sizeof text, &length) == VT_OK && vt_screen_write(&s, text, length) == VT_OK);
+    WANT(vt_screen_picture(&s, wanted, sizeof wanted, &length) == VT_OK);
+    WANT(vt_machine_picture(&m, 1, NULL, 0, &again) == VT_NO_ROOM && again == length);
+    WANT(vt_machine_picture(&m, 1, found, length - 1, &again) == VT_NO_ROOM && again == length && found[0] == 0);
+    WANT(vt_machine_picture(&m, 1, found, length, &again) == VT_OK && again == length);
+    WANT(memcmp(found, wanted, length) == 0);
+    vt_screen_free(&s), vt_machine_free(&m);
 }
 
 static void try_journal(void)
@@ -256,6 +371,10 @@ int main(void)
     try_waits();
     try_consoles();
     try_redraw();
+    try_changes();
+    try_other_cells();
+    try_near();
+    try_picture();
     try_journal();
     return ended();
 }

@@ -1,4 +1,4 @@
-/* Each request for memory of a machine refused in turn, in a call of every kind.
+/* Each request for memory of a machine refused in turn, alone and with all that follow, in a call of every kind.
  *
  * A call that is refused memory returns VT_NO_MEMORY, and nothing is lost: the machine has its journal, its display, its
  * consoles and its waits as before, what was asked for is given back, and the same call, made again, is answered as it
@@ -95,6 +95,7 @@ static struct vt_machine m;
 static struct vt_reply reply;
 static uint8_t bytes[ROOM], text[TEXT];
 static size_t length;
+static struct vt_cell blanks[36];
 
 /* All that can be read of a machine. */
 struct view {
@@ -178,6 +179,10 @@ static uint8_t make_machine(void)
 }
 
 static uint8_t redraw(void) { return vt_machine_redraw(&m, 1, text, TEXT, &length); }
+static uint8_t near(void) { return vt_machine_redraw_near(&m, 1, text, TEXT, &length); }
+static uint8_t changes(void) { return vt_machine_redraw_changes(&m, 1, blanks, 36, 9, text, TEXT, &length); }
+static uint8_t changes_near(void) { return vt_machine_redraw_changes_near(&m, 1, blanks, 36, 9, text, TEXT, &length); }
+static uint8_t picture(void) { return vt_machine_picture(&m, 1, text, TEXT, &length); }
 static uint8_t entry(void) { return vt_machine_entry(&m, 2, text, TEXT, &length); }
 static uint8_t journal(void) { return vt_machine_journal(&m, text, TEXT, &length); }
 
@@ -207,12 +212,19 @@ static unsigned long try_other(uint8_t (*call)(void))
 int main(void)
 {
     unsigned long all = 0, most = 0;
+    goes_on = true;
+    for (int i = 0; i < TRIED_COUNT; i++)
+        try_call(&TRIED[i]);
+    try_other(make_machine), try_other(redraw), try_other(entry), try_other(journal);
+    goes_on = false;
     for (int i = 0; i < TRIED_COUNT; i++) {
         unsigned long requests = try_call(&TRIED[i]);
         all += requests, most = requests > most ? requests : most;
     }
-    printf("requests: new %lu, redraw %lu, entry %lu, journal %lu; %d calls %lu, at most %lu\n", try_other(make_machine),
-           try_other(redraw), try_other(entry), try_other(journal), TRIED_COUNT, all, most);
+    printf("requests: new %lu, redraw %lu, redraw_changes %lu, redraw_near %lu, redraw_changes_near %lu, picture %lu, "
+           "entry %lu, journal %lu; %d calls %lu, at most %lu\n", try_other(make_machine), try_other(redraw),
+           try_other(changes), try_other(near), try_other(changes_near), try_other(picture), try_other(entry),
+           try_other(journal), TRIED_COUNT, all, most);
     WANT(blocks == 0 && m.at == NULL);
     return ended();
 }

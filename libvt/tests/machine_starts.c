@@ -18,7 +18,12 @@ static void try_nothing(void)
     WANT(vt_machine_display(&m, &shown) == VT_NOTHING && shown.front == 9);
     WANT(vt_machine_console(&m, 1, &console) == VT_NOTHING && console.rows == 9);
     WANT(vt_machine_row(&m, 1, 0, &cell, 1) == VT_NOTHING && cell.code == 9);
+    WANT(vt_machine_cells(&m, 1, &cell, 1) == VT_NOTHING && cell.code == 9);
     WANT(vt_machine_redraw(&m, 1, text, 4, &length) == VT_NOTHING && text[0] == 9 && length == 9);
+    WANT(vt_machine_redraw_changes(&m, 1, NULL, 0, 0, text, 4, &length) == VT_NOTHING && text[0] == 9 && length == 9);
+    WANT(vt_machine_redraw_near(&m, 1, text, 4, &length) == VT_NOTHING && text[0] == 9 && length == 9);
+    WANT(vt_machine_redraw_changes_near(&m, 1, NULL, 0, 0, text, 4, &length) == VT_NOTHING && length == 9);
+    WANT(vt_machine_picture(&m, 1, text, 4, &length) == VT_NOTHING && text[0] == 9 && length == 9);
     WANT(vt_machine_entry(&m, 0, text, 4, &length) == VT_NOTHING && text[0] == 9 && length == 9);
     WANT(vt_machine_journal(&m, text, 4, &length) == VT_NOTHING && text[0] == 9 && length == 9);
     vt_machine_free(&m);

@@ -1,4 +1,4 @@
-/* Each request for memory of screens and keyboards refused in turn.
+/* Each request for memory of screens and keyboards refused in turn, alone and with all that follow.
  *
  * A call that is refused memory returns VT_NO_MEMORY, what the handle has stays, and what it asked for is given back; or
  * it asks for less and does its work, as a list does that wanted room for twice as many items. The first line has how
@@ -12,21 +12,26 @@ static const uint8_t KEYMAP[] = "keymaps 0-2\ninclude \"more\"\nkeycode 30 = a\n
 static const uint8_t NAME[] = "more", MORE[] = "keycode 31 = b\ncompose '`' 'a' to U+00E0\n";
 static const struct vt_text TEXTS[] = { { NAME, 4, MORE, sizeof MORE - 1 } };
 
-/* What a screen shows, as a number. */
+/* A number with these bytes added. */
+static uint64_t summed(uint64_t sum, const void *from, size_t n)
+{
+    for (size_t i = 0; i < n; i++)
+        sum = (sum ^ ((const uint8_t *)from)[i]) * 1099511628211u;
+    return sum;
+}
+
+/* What the calls show of a screen, as a number. */
 static uint64_t shown(struct vt_screen *s)
 {
+    static struct vt_cell all[255 * 255];
     struct vt_state state;
-    struct vt_cell cells[255];
-    uint64_t sum = 14695981039346656037u;
-    WANT(vt_screen_state(s, &state) == VT_OK);
-    sum = (sum ^ (uint64_t)(state.rows * 256 + state.cols)) * 1099511628211u;
-    sum = (sum ^ (uint64_t)(state.y * 256 + state.x)) * 1099511628211u;
-    for (uint32_t y = 0; y < state.rows; y++) {
-        WANT(vt_screen_row(s, y, cells, 255) == VT_OK);
-        for (int x = 0; x < state.cols; x++)
-            sum = (sum ^ ((uint64_t)cells[x].code << 8 | cells[x].attr)) * 1099511628211u;
-    }
-    return sum;
+    struct vt_colour colours[16];
+    uint8_t changed[255];
+    WANT(vt_screen_state(s, &state) == VT_OK && vt_screen_cells(s, all, 255 * 255) == VT_OK);
+    WANT(vt_screen_palette(s, colours, 16) == VT_OK && vt_screen_changed(s, changed, 255) == VT_OK);
+    uint64_t sum = summed(14695981039346656037u, &state, sizeof state);
+    sum = summed(summed(sum, colours, sizeof colours), changed, state.rows);
+    return summed(sum, all, (size_t)state.rows * state.cols * sizeof *all);
 }
 
 static struct vt_screen screen;
@@ -50,6 +55,8 @@ static uint8_t make_keys(void) { return vt_keys_new(&keys, KEYMAP, sizeof KEYMAP
 /* Frees what the call has made, so that it can make it again. */
 static void undo(uint8_t (*call)(void))
 {
+    if (call == mark)
+        WANT(vt_screen_resize(&screen, 25, 80) == VT_OK);
     if (call == make)
         vt_screen_free(&screen);
     if (call == make_keys)
@@ -57,7 +64,7 @@ static void undo(uint8_t (*call)(void))
 }
 
 /* Refuses the call its requests in turn, until it needs no more; how many it makes. */
-static unsigned long try_each(uint8_t (*call)(void), bool is_there)
+static unsigned long try_refusals(uint8_t (*call)(void), bool is_there)
 {
     unsigned long refusals = 0;
     for (unsigned long n = 1; n < 10000; n++) {
@@ -72,7 +79,7 @@ static unsigned long try_each(uint8_t (*call)(void), bool is_there)
             return made;
         }
         if (code == VT_OK) {
-            WANT(made > n);
+            WANT(made > n && !goes_on);
             undo(call);
             continue;
         }
@@ -83,6 +90,17 @@ static unsigned long try_each(uint8_t (*call)(void), bool is_there)
     }
     WANT(false);
     return 0;
+}
+
+/* The same for one request alone, and for all from one on. */
+static unsigned long try_each(uint8_t (*call)(void), bool is_there)
+{
+    goes_on = true;
+    unsigned long made = try_refusals(call, is_there);
+    undo(call);
+    goes_on = false;
+    WANT(try_refusals(call, is_there) == made);
+    return made;
 }
 
 int main(void)

@@ -22,15 +22,18 @@ struct view {
     struct vt_mark marks[4];
     struct vt_display display;
     struct vt_console console;
-    struct vt_cell machine_cells[COLS];
-    uint8_t wait, machine_redraw[TEXT], entry[TEXT], journal[TEXT];
-    size_t pairs_count, marks_count, machine_redraw_length, entry_length, journal_length;
+    struct vt_cell machine_cells[COLS], machine_all[ROWS * COLS];
+    uint8_t wait, machine_redraw[TEXT], machine_changes[TEXT], machine_near[TEXT], machine_changes_near[TEXT];
+    uint8_t machine_picture[PICTURE], entry[TEXT], journal[TEXT];
+    size_t pairs_count, marks_count, machine_redraw_length, machine_changes_length, machine_near_length;
+    size_t machine_changes_near_length, machine_picture_length, entry_length, journal_length;
 };
 
 static struct vt_screen screen;
 static struct vt_keys keys;
 static struct vt_machine machine;
 static struct view first;
+static const struct vt_cell blanks[ROWS * COLS];
 static long turns = 20;
 
 static bool read_machine(const struct vt_machine *m, struct view *v)
@@ -38,7 +41,14 @@ static bool read_machine(const struct vt_machine *m, struct view *v)
     return vt_machine_marks(m, v->marks, 4, &v->marks_count) == VT_OK && vt_machine_wait(m, 1, &v->wait) == VT_OK &&
            vt_machine_display(m, &v->display) == VT_OK && vt_machine_console(m, 1, &v->console) == VT_OK &&
            vt_machine_row(m, 1, 0, v->machine_cells, COLS) == VT_OK &&
+           vt_machine_cells(m, 1, v->machine_all, ROWS * COLS) == VT_OK &&
            vt_machine_redraw(m, 1, v->machine_redraw, TEXT, &v->machine_redraw_length) == VT_OK &&
+           vt_machine_redraw_changes(m, 1, blanks, ROWS * COLS, COLS, v->machine_changes, TEXT,
+                                     &v->machine_changes_length) == VT_OK &&
+           vt_machine_redraw_near(m, 1, v->machine_near, TEXT, &v->machine_near_length) == VT_OK &&
+           vt_machine_redraw_changes_near(m, 1, blanks, ROWS * COLS, COLS, v->machine_changes_near, TEXT,
+                                          &v->machine_changes_near_length) == VT_OK &&
+           vt_machine_picture(m, 1, v->machine_picture, PICTURE, &v->machine_picture_length) == VT_OK &&
            vt_machine_entry(m, 1, v->entry, TEXT, &v->entry_length) == VT_OK &&
            vt_machine_journal(m, v->journal, TEXT, &v->journal_length) == VT_OK;
 }

@@ -1,7 +1,7 @@
 /* Requests for memory, counted and refused. Linked with -Wl,--wrap=malloc,--wrap=realloc,--wrap=free.
  *
- * `asked` counts the requests, the one of number `refused` isn't met (none if it is 0), and `blocks` is how many blocks
- * are there. */
+ * `asked` counts the requests. The one of number `refused` isn't met (none if it is 0), nor are those after it if
+ * `goes_on`. `blocks` is how many blocks are there. */
 #ifndef REFUSALS_H
 #define REFUSALS_H
 
@@ -16,11 +16,13 @@ void *__wrap_realloc(void *, size_t);
 void __wrap_free(void *);
 
 static unsigned long asked, refused;
+static bool goes_on;
 static long blocks;
 
 static bool is_refused(void)
 {
-    return ++asked == refused;
+    asked++;
+    return refused > 0 && (goes_on ? asked >= refused : asked == refused);
 }
 
 void *__wrap_malloc(size_t size)

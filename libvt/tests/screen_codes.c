@@ -65,7 +65,7 @@ static struct picture before, after;
 
 static void try_nothing(struct vt_screen *s)
 {
-    struct vt_fed fed = { 7, 7, { 7, 7 } };
+    struct vt_fed fed = { 7, 7, 7, { 7 } };
     struct vt_out out = { .kind = 9 };
     struct vt_state state = { .rows = 9 };
     struct vt_cell cell = { 9, 9, { 9, 9, 9 } };
@@ -77,6 +77,8 @@ static void try_nothing(struct vt_screen *s)
     static const uint16_t words[256];
     WANT(vt_screen_feed(s, TEXT, sizeof TEXT, &out, 1, &fed) == VT_NOTHING);
     WANT(fed.taken == 7 && fed.outs == 7 && out.kind == 9);
+    WANT(vt_screen_feed_rows(s, TEXT, sizeof TEXT, &out, 1, &cell, 1, &fed) == VT_NOTHING);
+    WANT(fed.taken == 7 && fed.outs == 7 && fed.rows == 7 && out.kind == 9 && cell.code == 9);
     WANT(vt_screen_write(s, TEXT, sizeof TEXT) == VT_NOTHING);
     WANT(vt_screen_state(s, &state) == VT_NOTHING && state.rows == 9);
     WANT(vt_screen_cell(s, 0, 0, &cell) == VT_NOTHING && cell.code == 9 && cell.attr == 9);
@@ -199,6 +201,76 @@ static void try_feeding(void)
     LEAVES(&s, vt_screen_feed(&s, asking, 0, outs, 9, &fed), VT_OK);
     WANT(fed.taken == 0 && fed.outs == 0);
     LEAVES(&s, vt_screen_write(&s, asking, 0), VT_OK);
+    vt_screen_free(&s);
+}
+
+/* Whether these rows fall out, one after another, by a text that is drawn with room for so many cells. */
+static bool fell(struct vt_screen *s, const char *text, size_t n, size_t room, const char *wanted)
+{
+    struct vt_cell cells[64];
+    struct vt_out out;
+    struct vt_fed fed;
+    size_t length = strlen(wanted);
+    memset(cells, 9, sizeof cells);
+    if (vt_screen_feed_rows(s, (const uint8_t *)text, n, &out, 1, cells, room, &fed) != VT_OK || fed.taken != n)
+        return false;
+    bool is_so = fed.spare[0] == 0;
+    for (size_t i = 0; is_so && i < length; i++)
+        is_so = cells[i].code == (uint8_t)wanted[i] && cells[i].spare[0] == 0;
+    struct vt_state state;
+    WANT(vt_screen_state(s, &state) == VT_OK && fed.rows * state.cols == length);
+    return is_so && (length == 64 || (cells[length].code == 0x09090909 && cells[length].attr == 9));
+}
+
+/* The rows that fall out at the top: those that a line feed scrolls out in the last row of a region that begins with
+ * the first row (console_codes(4)). */
+static void try_rows(void)
+{
+    static const struct {
+        const char *before, *text, *fallen;
+    } cases[] = {
+        { "", "ab\r\nc\r\nd\r\ne", "ab " },
+        { "\033[3;1Hx\033[1;1Habc", "\033[3;3Hyz", "abc" },
+        { "a\033[3;1H", "\n", "a  " }, { "a\033[3;1H", "\v", "a  " }, { "a\033[3;1H", "\f", "a  " },
+        { "a\033[3;1H", "\033D", "a  " }, { "a\033[3;1H", "\033E", "a  " }, { "a\033[3;1H", "\033[\n5m", "a  " },
+        { "a\033[3;2H", "\346\226\207\346\226\207", "a  " },
+        { "a\033[3;3H", "\346\226\207", "a  " },
+        { "a\033[3;1H", "xyz", "" },
+        { "a\033[3;1H\033[?7l", "xyzxyz", "" },
+        { "a\033[3;1H", "\033M", "" },
+        { "a\033[2;1H", "\n", "" },
+        { "a\033[1;1H", "\033[M\033[9S\033[2J\033c", "" },
+        { "a\033[2;3r\033[3;1H", "\n\n", "" },
+        { "a\033[1;2r\033[2;1H", "\n\n", "a     " },
+        { "a\033[1;2r\033[3;1H", "\n\n", "" },
+        { "a\r\nb\033[3;1Habc\344", "\n", "a  b  " },
+        { "a\033[3;1H", "\033[3h\v\v\v\v", "a  " },
+        { "a\033[3;1H", "\n\033[6n", "a  " },
+    };
+    for (size_t i = 0; i < sizeof cases / sizeof *cases; i++) {
+        struct vt_screen s = { 0 };
+        WANT(vt_screen_new(&s, 3, 3) == VT_OK && drawn(&s, cases[i].before));
+        if (!WANT(fell(&s, cases[i].text, strlen(cases[i].text), 64, cases[i].fallen)))
+            printf("case %zu\n", i);
+        vt_screen_free(&s);
+    }
+    struct vt_screen s = { 0 };
+    struct vt_out out = { .kind = 9 };
+    struct vt_cell cells[9] = { { 9, 9, { 9, 9, 9 } } };
+    struct vt_fed fed = { 7, 7, 7, { 7 } };
+    WANT(vt_screen_new(&s, 3, 3) == VT_OK && drawn(&s, "a\r\nb\r\nc"));
+    /* Two rows have to have room; then the text ends when they don't. */
+    LEAVES(&s, vt_screen_feed_rows(&s, (const uint8_t *)"\n", 1, &out, 1, cells, 5, &fed), VT_NO_ROOM);
+    WANT(fed.taken == 7 && fed.outs == 7 && fed.rows == 7 && out.kind == 9 && cells[0].code == 9);
+    LEAVES(&s, vt_screen_feed_rows(&s, NULL, 0, NULL, 0, NULL, 0, &fed), VT_NO_ROOM);
+    LEAVES(&s, vt_screen_feed_rows(&s, NULL, 0, NULL, 0, cells, 6, &fed), VT_OK);
+    WANT(fed.taken == 0 && fed.outs == 0 && fed.rows == 0 && fed.spare[0] == 0);
+    LEAVES(&s, vt_screen_feed_rows(&s, (const uint8_t *)"\n", 1, NULL, 0, cells, 6, &fed), VT_OK);
+    WANT(fed.taken == 0 && fed.outs == 0 && fed.rows == 0);
+    WANT(vt_screen_feed_rows(&s, (const uint8_t *)"\nx\n\n", 4, &out, 1, cells, 8, &fed) == VT_OK);
+    WANT(fed.taken == 1 && fed.rows == 1 && cells[0].code == 'a' && cells[0].attr == 7 && cells[3].code == 0);
+    WANT(vt_screen_feed_rows(&s, (const uint8_t *)"x\n\n", 3, &out, 1, cells, 9, &fed) == VT_OK);
+    WANT(fed.taken == 3 && fed.rows == 2 && cells[0].code == 'b' && cells[3].code == 'c');
     vt_screen_free(&s);
 }
 
@@ -447,12 +519,12 @@ static void try_picture(void)
 static void try_null(void)
 {
     struct vt_screen s = { 0 };
-    struct vt_fed fed = { 7, 7, { 7, 7 } };
+    struct vt_fed fed = { 7, 7, 7, { 7 } };
     struct vt_out out = { .kind = 9 };
     size_t length;
     WANT(vt_screen_new(&s, 2, 4) == VT_OK);
     LEAVES(&s, vt_screen_feed(&s, NULL, 0, &out, 1, &fed), VT_OK);
-    WANT(fed.taken == 0 && fed.outs == 0 && fed.spare[0] == 0 && fed.spare[1] == 0 && out.kind == 9);
+    WANT(fed.taken == 0 && fed.outs == 0 && fed.rows == 0 && fed.spare[0] == 0 && out.kind == 9);
     LEAVES(&s, vt_screen_feed(&s, TEXT, 1, NULL, 0, &fed), VT_OK);
     WANT(fed.taken == 0 && fed.outs == 0);
     LEAVES(&s, vt_screen_write(&s, NULL, 0), VT_OK);
@@ -486,6 +558,7 @@ int main(void)
     try_making();
     try_screen();
     try_feeding();
+    try_rows();
     try_settings();
     try_changes();
     try_redraw();

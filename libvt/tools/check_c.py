@@ -3,18 +3,21 @@
 
 usage: check_c.py [--library OUT | --gate] [--vt PROGRAM] [--only CHECK,..] [--add-interface] [--runs N] [--sessions N]
 
-- `header`: vt.h is C99 to C2x and C++11 to C++20, also after <term.h>, and has each line of libvt/src/interface.txt;
-the library
-  has the calls of vt.h and no other symbol; the Python package has its layout.
+- `header`: vt.h is C99 to C2x and C++11 to C++23, by the compilers cc, c++, clang and clang++, also after <term.h>, and
+  has each line of libvt/src/interface.txt; the library has the calls of vt.h and no other symbol, and vt(3) their
+  prototypes; the Python package has its layout.
 - `codes`: each code of each call, plainly, with sanitizers, and under valgrind without a leak.
 - `machines`: N generated sessions (300) are called one by one on a machine: the journal, the screens, the display and
   the queues are those of `vt play`, byte for byte. And calls in any order: `watch free` finds their journal legal.
 - `cuts`, `outs`, `workloads`: the recordings of examples/ in pieces of 1, 7, 64, 4,096 bytes and whole, with room for
   0, 1, 2, 64 and 5,000 outs; a text that asks for thousands of things in eight cuts; the ten workloads of
   dev/bench/inputs.py. The rows are those that `vt screen` prints.
-- `memory`: each request for memory refused once. `threads`: handles that go between threads, and eight threads that
-  read one handle at once, under helgrind too.
-- `keys`, `faults`: random runs of keys (1,000, or --runs) are typed as `vt type` does; faults of keymaps are those of `vt keys`.
+- `steps`: 200 runs of random texts and resizes: after each step the screen is that of a console of `vt play`, and so
+  are those that redraws make on another screen; the changed rows are those that differ from the mark.
+- `memory`: each request for memory refused, alone and with all that follow. `threads`: handles that go between
+  threads, and eight threads that read one handle at once, under helgrind too.
+- `keys`, `consoles`, `faults`: random runs of keys (1,000, or --runs) are typed as `vt type` does, and 200 over several
+  consoles with their key states and modes as `vt play` does; faults of keymaps are those of `vt keys`.
 - `terminal`: libvt/examples/term.c on a pseudo-terminal. `programs`: vim, less, htop, dialog and mc in it, in tmux.
 - `python`, `rust`: the tests of the bindings. `fuzz`: the fuzzer's corpus (libvt/tools/fuzz_c.sh looks for more).
 - `install`: tools/install.sh into a folder, and programs that are linked by pkg-config there, with the shared object
@@ -42,13 +45,31 @@ sys.path.insert(0, str(pathlib.Path(__file__).resolve().parents[2] / "dev"))
 
 import repository  # noqa: E402,F401: it has the folders of the modules below
 import package  # noqa: E402
-from c_library import drawn, guide, interface, machines, programs, terminal, typed  # noqa: E402
+from c_library import drawn, guide, interface, machines, programs, steps, terminal, typed  # noqa: E402
 from c_library.bench import (  # noqa: E402
     EXAMPLES, SANITIZERS, TESTS, TOP, VALGRIND, WARNINGS, Bench, Missing)
 from programs import find_for_check  # noqa: E402
 from tool_files import Stop, number  # noqa: E402
 
 HEADER = TOP / "libvt/include/vt.h"
+# The standards of the header, and the compilers with the warnings that are faults in it.
+STANDARDS = {"c": "c99 c11 c17 c2x", "c++": "c++11 c++14 c++17 c++20 c++2b"}
+STRICT = [*WARNINGS, "-pedantic", "-Wconversion", "-Wshadow"]
+EVERY = ["-Weverything", "-Werror", "-Wno-unused-macros"]
+COMPILERS = {
+    "cc": ("c", [*STRICT, "-Wstrict-prototypes"]), "c++": ("c++", [*STRICT, "-Wold-style-cast"]),
+    "clang": ("c", EVERY), "clang++": ("c++", EVERY),
+}  # fmt: skip
+# What a program makes of the header's macros.
+USES = b"""#include <vt.h>
+size_t most(uint32_t rows, uint32_t cols);
+size_t most(uint32_t rows, uint32_t cols)
+{
+    const struct vt_modes modes = VT_MODES_START;
+    const struct vt_key_state state = VT_KEY_STATE_START;
+    return VT_REDRAW_MOST(rows, cols) + modes.repeat + vt_key_lights(&state);
+}
+"""
 # How a program is linked with the installed library.
 LINKS = {
     "shared": "$(pkg-config --cflags --libs vt)",
@@ -77,13 +98,13 @@ def binding(bench):
 
 def check_header(bench):
     bench.needs("nm", "readelf")
-    for language, compiler, standards in (("c", "cc", "c99 c11 c2x"), ("c++", "c++", "c++11 c++17 c++20")):
+    for compiler, (language, warnings) in COMPILERS.items():
         if not shutil.which(compiler):
-            bench.skip(f"vt.h in {language}", f"{compiler} isn't there")
+            bench.skip(f"vt.h by {compiler}", f"{compiler} isn't there")
             continue
-        for standard in standards.split():
-            words = [compiler, "-x", language, f"-std={standard}", *WARNINGS, "-pedantic", "-fsyntax-only", HEADER]
-            bench.ends_well(words, f"vt.h as {standard}")
+        for standard in STANDARDS[language].split():
+            words = [compiler, "-x", language, f"-std={standard}", *warnings, "-fsyntax-only", "-I", HEADER.parent, "-"]
+            bench.ends_well(words, f"vt.h as {standard} by {compiler}", USES)
     check_header_beside(bench)
     calls = calls_of_header()
     for name, option in (("libvt.a", "-g"), ("libvt.so.1", "-D")):
@@ -108,6 +129,9 @@ def check_header(bench):
         bench.holds(not found, "the interface of libvt.so.1 is that of the file:\n" + "\n".join(found))
         listed = set(interface.package_calls())
         bench.holds(listed == calls, f"debian/libvt1.symbols has the calls of vt.h: {sorted(listed ^ calls)}")
+    synopsis, header = interface.prototypes_of_manual(), interface.prototypes_of_header()
+    differing = sorted(set(synopsis) ^ set(header))
+    bench.holds(sorted(synopsis) == sorted(header), f"the synopsis of vt(3) has the calls of vt.h: {differing}")
     version = re.search(r'^\.Os "vt (\d+)\.(\d+)\.(\d+)"$', (TOP / "man/vt.3").read_text(encoding="utf-8"), re.M)
     wanted = int(version[1]) << 16 | int(version[2]) << 8 | int(version[3])
     bench.holds(f"#define VT_VERSION {wanted:#08x}\n" in HEADER.read_text(encoding="utf-8"), "VT_VERSION is that of vt(3)")
@@ -123,7 +147,7 @@ def check_instructions(bench):
 
 
 def check_header_beside(bench):
-    """The header after those of terminfo and of the console, whose macros stay clear of it, and under clang's warnings."""
+    """The header after those of terminfo and of the console, whose macros stay clear of it."""
     text = b"#include <linux/vt.h>\n#include <linux/kd.h>\n#include <linux/keyboard.h>\n#include <vt.h>\n"
     words = ["cc", "-x", "c", *WARNINGS, "-fsyntax-only", "-I", HEADER.parent, "-"]
     bench.ends_well(words, "vt.h after the headers of the console", text)
@@ -131,10 +155,6 @@ def check_header_beside(bench):
         bench.ends_well(words, "vt.h after term.h", b"#include <curses.h>\n#include <term.h>\n#include <vt.h>\n")
     else:
         bench.skip("vt.h after term.h", "term.h isn't there; Debian's package libncurses-dev has it")
-    if shutil.which("clang"):
-        words = ["clang", "-x", "c", "-std=c11", "-Weverything", "-Werror", "-Wno-unused-macros", "-fsyntax-only", "-I",
-                 HEADER.parent, "-"]
-        bench.ends_well(words, "vt.h with -Weverything", b"#include <vt.h>\n")
 
 
 def compare_layout(bench, lines):
@@ -151,7 +171,7 @@ def compare_layout(bench, lines):
 
 
 def check_codes(bench):
-    for name in ("screen_codes", "keys_codes", "machine_codes", "machine_starts"):
+    for name in ("screen_codes", "rows", "keys_codes", "machine_codes", "machine_starts"):
         plain = bench.compiled(name, [TESTS / f"{name}.c"])
         sanitized = bench.compiled(f"{name}.san", [TESTS / f"{name}.c"], SANITIZERS)
         if plain and sanitized:
@@ -262,9 +282,11 @@ CHECKS = {
     "cuts by valgrind": drawn.check_cuts_by_valgrind,
     "outs": drawn.check_outs,
     "workloads": drawn.check_workloads,
+    "steps": steps.check_steps,
     "memory": check_memory,
     "threads": check_threads,
     "keys": typed.check_keys,
+    "consoles": typed.check_consoles,
     "faults": typed.check_faults,
     "machines": machines.check_machines,
     "terminal": lambda bench: terminal.check_terminal(bench, binding(bench)),

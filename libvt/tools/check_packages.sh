@@ -5,11 +5,11 @@
 # usage: libvt/tools/check_packages.sh [--no-root] [FOLDER]
 #
 # The programs and the library are those that stand in the clone, proved or not (tools/build.py makes what is missing).
-# FOLDER, if there is one, gets the packages. The root is made by mmdebstrap, of Debian 12, with a C compiler and
-# pkg-config; apt installs the packages there, and the tests of debian/tests run. --no-root leaves that out. It wants
-# Debian's packages debhelper, dh-python, lintian and mmdebstrap, a mirror of Debian, and the rights of root for the
-# root. Prints what lintian says. Statuses: 0 all is well; 1 a step failed, which the last line names; 2 something is
-# missing.
+# FOLDER, if there is one, gets the packages. The root is made by mmdebstrap, of Debian 12, with compilers of C and C++,
+# pkg-config, man and kbd; apt installs the packages there, and the tests of debian/tests run. --no-root leaves that out.
+# It wants Debian's packages debhelper, dh-python, lintian and mmdebstrap, a mirror of Debian, and the rights of root for
+# the root. Prints what lintian says. Statuses: 0 all is well; 1 a step failed, which the last line names; 2 something
+# is missing.
 set -eu
 
 fail() {
@@ -35,7 +35,9 @@ done
 work=$(mktemp -d)
 root=$work/root
 clean() {
-    ! mountpoint -q "$root/dev/pts" || umount "$root/dev/pts"
+    for folder in "$root/dev/pts" "$root/proc"; do
+        ! mountpoint -q "$folder" || umount "$folder"
+    done
     rm -rf --one-file-system "$work"
 }
 trap clean EXIT
@@ -69,23 +71,24 @@ command -v mmdebstrap > /dev/null || missing "mmdebstrap isn't there"
 mmdebstrap --variant=apt bookworm "$root" > "$log" 2>&1 || { tail -n 5 "$log" >&2; fail "there is no empty root"; }
 mkdir "$root/packages"
 cp "$work"/*.deb "$root/packages/"
-cp -r "$work/vt" "$root/source"
-rm -rf "$root/source/out" "$root/source/crates"
+cp -r "$work/vt/debian/tests" "$root/tests"
 cp /etc/resolv.conf "$root/etc/resolv.conf"
-# (without pseudo-terminals debian/tests/python runs no program)
-mount -t devpts -o newinstance,ptmxmode=0666 devpts "$root/dev/pts" && ln -sf pts/ptmx "$root/dev/ptmx" ||
-    echo "skipped: programs on a pseudo-terminal in the root"
+# (without pseudo-terminals and /proc debian/tests/python and vtrun run no program)
+mount -t devpts -o newinstance,ptmxmode=0666 devpts "$root/dev/pts" && ln -sf pts/ptmx "$root/dev/ptmx" &&
+    mount -t proc proc "$root/proc" || echo "skipped: programs on a pseudo-terminal in the root"
 in_root() {
     chroot "$root" env -i PATH=/usr/sbin:/usr/bin:/sbin:/bin DEBIAN_FRONTEND=noninteractive LC_ALL=C.UTF-8 \
-        sh -c "cd /source && $*"
+        sh -c "cd / && $*"
 }
-in_root 'apt-get update -qq && apt-get install -y -qq --no-install-recommends gcc libc6-dev pkg-config /packages/*.deb' \
+beside='gcc g++ libc6-dev pkg-config man-db kbd'
+in_root "apt-get update -qq && apt-get install -y -qq --no-install-recommends $beside /packages/*.deb" \
     > "$log" 2>&1 || { tail -n 10 "$log" >&2; fail "the packages aren't installed"; }
-for test in library program python; do
-    in_root "debian/tests/$test" > "$log" 2>&1 || { tail -n 10 "$log" >&2; fail "debian/tests/$test fails in the root"; }
+for test in library program pages python; do
+    in_root "/tests/$test" > "$log" 2>&1 || { tail -n 10 "$log" >&2; fail "debian/tests/$test fails in the root"; }
+    grep '^skipped: ' "$log" || true
     echo "debian/tests/$test passes in the root"
 done
 in_root 'apt-get purge -y -qq vt libvt1 libvt-dev python3-libvt' > "$log" 2>&1 || fail "the packages aren't purged"
-left=$(in_root 'find / -xdev \( -name "libvt*" -o -path "*/share/vt*" -o -path /usr/include/vt.h \) -not -path "/source/*" -not -path "/packages/*" -not -path "/proc/*"' || true)
+left=$(in_root 'find / -xdev \( -name "libvt*" -o -path "*/share/vt*" -o -path /usr/include/vt.h \) -not -path "/packages/*" -not -path "/proc/*"' || true)
 [ -z "$left" ] || fail "what a purge leaves: $left"
 echo "the packages are installed, used and purged in an empty root"

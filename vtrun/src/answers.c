@@ -89,7 +89,9 @@ static void type_body(struct client *it, const char *rest, const char *body, siz
 {
     size_t fault;
     (void)rest;
-    if (type_text(body, length, &fault))
+    bool is_typed = type_text(body, length, &fault);
+    hand_over();
+    if (is_typed)
         reply_ok(it, NULL, 0);
     else
         reply_no(it, "%.*s: no key makes this; names of keys are <Enter>, <A-F2>, <C-c>, and <lt> is the character <",
@@ -112,6 +114,7 @@ static void scan_bytes(struct client *it, const char *rest, const char *body, si
         at = *end ? end + 1 : end;
     }
     scan(bytes, n);
+    hand_over();
     reply_ok(it, NULL, 0);
 }
 

@@ -117,6 +117,7 @@ void write_input(unsigned n)
             ssize_t count = write(it->master, it->input, it->input_length);
             if (count <= 0)
                 return;
+            it->is_given = true;
             it->input_length -= (size_t)count;
             memmove(it->input, it->input + count, it->input_length);
             continue;
@@ -137,6 +138,20 @@ void write_all_input(void)
     for (unsigned n = 1; n < CONSOLES; n++)
         if (vt_machine_console(&machine, n, &seen) == VT_OK && seen.queued)
             write_input(n);
+}
+
+/* The kernel hands on what a pty got when it has time. A poll of its slave waits for that: then programs have it. */
+void hand_over(void)
+{
+    for (unsigned n = 1; n < CONSOLES; n++) {
+        int fd = consoles[n].is_given && consoles[n].is_open ? open_slave(n, O_RDONLY | O_NONBLOCK) : -1;
+        struct pollfd it = { fd, POLLIN, 0 };
+        consoles[n].is_given = false;
+        if (fd < 0)
+            continue;
+        poll(&it, 1, 0);
+        close(fd);
+    }
 }
 
 /* What programs wrote goes to the machine's console. Whether there may be more to read. */

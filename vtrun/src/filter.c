@@ -12,6 +12,10 @@
 #include <sys/syscall.h>
 #include <unistd.h>
 
+#ifndef SECCOMP_FILTER_FLAG_WAIT_KILLABLE_RECV
+#define SECCOMP_FILTER_FLAG_WAIT_KILLABLE_RECV (1UL << 5)
+#endif
+
 enum { MOST_STEPS = 128, X32 = 0x40000000, FCHMODAT2 = 452 };
 
 /* The system calls with paths that may name a console. */
@@ -80,13 +84,24 @@ static void make_filter(void)
     give(SECCOMP_RET_ALLOW);
 }
 
-/* Puts the filter on this process and all that come from it. Its listener, or -1. */
+static int put_filter(unsigned long flags)
+{
+    struct sock_fprog program = { (unsigned short)length, steps };
+    return (int)syscall(SYS_seccomp, SECCOMP_SET_MODE_FILTER, SECCOMP_FILTER_FLAG_NEW_LISTENER | flags, &program);
+}
+
+/* Puts the filter on this process and all that come from it. Its listener, or -1.
+ *
+ * From Linux 5.19 on no signal except SIGKILL ends a call that was received: so each answer reaches its process, and no
+ * call is made twice. */
 int install_filter(void)
 {
+    unsigned long flags = SECCOMP_FILTER_FLAG_WAIT_KILLABLE_RECV;
     make_filter();
-    struct sock_fprog program = { (unsigned short)length, steps };
-    int fd = (int)syscall(SYS_seccomp, SECCOMP_SET_MODE_FILTER, SECCOMP_FILTER_FLAG_NEW_LISTENER, &program);
+    int fd = put_filter(flags);
+    if (fd < 0 && errno == EINVAL)
+        fd = put_filter(flags = 0);
     if (fd < 0 && errno == EACCES && prctl(PR_SET_NO_NEW_PRIVS, 1, 0, 0, 0) == 0)
-        fd = (int)syscall(SYS_seccomp, SECCOMP_SET_MODE_FILTER, SECCOMP_FILTER_FLAG_NEW_LISTENER, &program);
+        fd = put_filter(flags);
     return fd;
 }

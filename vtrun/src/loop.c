@@ -1,5 +1,5 @@
-/* The loop: one thing at a time. What programs wrote comes first, then their requests, then their ends: the order in
- * which a program makes them. */
+/* The loop: one thing at a time. What programs wrote comes first, then the ends of programs, then requests: one that
+ * waits for an answer hasn't ended, and one that asks may have seen another end. The control socket comes last. */
 #include "vtrun.h"
 #include <signal.h>
 #include <stdlib.h>
@@ -10,7 +10,7 @@
 #include <time.h>
 #include <unistd.h>
 
-enum { EVENTS = 64, LOOK_MS = 20, HELD_MS = 50, END_MS = 3000, TIMED_OUT = 124 };
+enum { EVENTS = 256, LOOK_MS = 20, HELD_MS = 20, END_MS = 3000, TIMED_OUT = 124, LAST_TURN = 3 };
 
 int status = -1;
 bool is_ending;
@@ -74,6 +74,17 @@ static void handle(const struct epoll_event *it)
     send_signals();
 }
 
+/* When an event of those that came together is handled. */
+static int turn_of(const struct epoll_event *it)
+{
+    switch ((enum source)(it->data.u64 >> 32)) {
+    case OF_MASTER: return 0;
+    case OF_PROCESS: return 1;
+    case OF_LISTENER: return 2;
+    default: return LAST_TURN;
+    }
+}
+
 /* How long the loop may sleep. */
 static int sleep_ms(bool has_more)
 {
@@ -103,6 +114,17 @@ static bool look_at_consoles(void)
             has_more = read_output(n) || has_more;
     }
     return has_more;
+}
+
+/* Requests that are held: their processes may have been killed, or have signals to take. */
+static void look_at_waits(void)
+{
+    static int64_t next;
+    if (!are_held() || now_ms() < next)
+        return;
+    look_at_held();
+    look_at_signals();
+    next = now_ms() + HELD_MS;
 }
 
 static void look_at_time(void)
@@ -140,16 +162,12 @@ int serve(void)
         deadline = now_ms() + (int64_t)options.seconds * 1000;
     while (!is_ending) {
         int count = epoll_wait(poller, events, EVENTS, sleep_ms(has_more));
-        for (int pass = 0; pass < 3; pass++)
-            for (int i = 0; i < count; i++) {
-                enum source source = (enum source)(events[i].data.u64 >> 32);
-                int turn = source == OF_MASTER ? 0 : source == OF_LISTENER ? 1 : 2;
-                if (turn == pass)
+        for (int turn = 0; turn <= LAST_TURN; turn++)
+            for (int i = 0; i < count; i++)
+                if (turn_of(&events[i]) == turn)
                     handle(&events[i]);
-            }
         has_more = look_at_consoles();
-        if (are_held() && count == 0)
-            look_at_held();
+        look_at_waits();
         look_at_clients();
         look_at_time();
         if (count == 0)

@@ -112,8 +112,13 @@ void take_signals(unsigned caller)
     reply = kept;
 }
 
+/* (of a process that waits another thread calls: it is refused, and no call of a script stands within a wait) */
 int act(unsigned caller, const char *name, const uint16_t *numbers, size_t count, const void *held, size_t n)
 {
+    if (caller > 0 && caller < SEATS && seats[caller].waits) {
+        reply = (struct vt_reply){ .kind = VT_REPLY_ERR, .number = EINVAL };
+        return EINVAL;
+    }
     int error = call_machine(caller, name, numbers, count, held, n);
     if (has_scripts && reply.kind != VT_REPLY_WAIT && caller > 0 && caller < SEATS)
         take_signals(caller);

@@ -8,7 +8,7 @@
 #include <sys/uio.h>
 #include <unistd.h>
 
-enum { PAGE = 4096, MAJOR_OF_PTS = 136 };
+enum { PAGE = 4096, MAJOR_OF_PTS = 136, STATUS_ROOM = 16384 };
 
 /* As many bytes as can be read, or -1. */
 ssize_t read_memory(pid_t pid, uint64_t at, void *to, size_t n)
@@ -66,6 +66,25 @@ pid_t process_of(pid_t thread, uid_t *user)
     if (!line || !users || sscanf(line, "\nTgid: %d", &pid) != 1 || sscanf(users, "\nUid: %*u %u", user) != 1)
         return 0;
     return pid;
+}
+
+/* Whether a thread has a signal to take: one that is pending, for it or for its process, and that it doesn't block. */
+bool has_signal(pid_t thread)
+{
+    static char text[STATUS_ROOM];
+    static const char *const names[] = { "\nSigPnd:", "\nShdPnd:", "\nSigBlk:" };
+    unsigned long long sets[3];
+    char path[32];
+    snprintf(path, sizeof path, "/proc/%d/status", thread);
+    if (!read_small(path, text, sizeof text))
+        return false;
+    for (size_t i = 0; i < 3; i++) {
+        const char *line = strstr(text, names[i]);
+        if (!line)
+            return false;
+        sets[i] = strtoull(line + strlen(names[i]), NULL, 16);
+    }
+    return (sets[0] | sets[1]) & ~sets[2];
 }
 
 /* The session of a process and the device of its controlling terminal, 0 if it has none. */

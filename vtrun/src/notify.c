@@ -14,8 +14,8 @@ enum { LOST = 16, REPEATED_MS = 1000 };
 
 int listener = -1;
 
-/* Answers that no one took, since a signal came meanwhile. The kernel makes such a call again, or the program does,
- * from the same place and soon, and it gets the same answer: it must not be done twice. */
+/* Answers that no one took, since a signal came meanwhile (before Linux 5.19). The kernel makes such a call again, or
+ * the program does, from the same place and soon, and it gets the same answer: it must not be done twice. */
 static struct {
     pid_t thread;
     uint64_t place, words[3];

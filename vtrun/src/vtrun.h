@@ -79,6 +79,7 @@ struct console {
     int descriptor;       /* of the pump that holds the console open in the machine, or -1 */
     uint8_t input[MOST_WRITE];
     size_t input_length;  /* what came from the machine's queue, and the pty has no room for yet */
+    bool is_given;        /* whether the pty got input since `hand_over` */
 };
 extern struct console consoles[CONSOLES];
 extern uint64_t unsure;                       /* consoles that a program may have opened meanwhile, as bits */
@@ -87,6 +88,7 @@ bool read_output(unsigned n);
 void read_all_outputs(void);
 void write_input(unsigned n);
 void write_all_input(void);
+void hand_over(void);
 void look_at_console(unsigned n);
 int open_slave(unsigned n, int flags);
 void set_size(unsigned n);
@@ -129,6 +131,7 @@ ssize_t read_memory(pid_t pid, uint64_t at, void *to, size_t n);
 bool write_memory(pid_t pid, uint64_t at, const void *from, size_t n);
 bool read_text(pid_t pid, uint64_t at, char *to, size_t room);
 pid_t process_of(pid_t thread, uid_t *user);
+bool has_signal(pid_t thread);
 bool stat_fields(pid_t pid, int *session, unsigned *terminal);
 unsigned console_of_terminal(unsigned terminal);
 unsigned console_of_stat(dev_t device, ino_t inode);
@@ -178,6 +181,7 @@ void tell_event(unsigned kind, unsigned from, unsigned to);
 bool are_held(void);
 void settle_waits(void);
 void look_at_held(void);
+void look_at_signals(void);
 void break_wait(unsigned seat);
 bool is_breaking_wait(void);
 

@@ -17,10 +17,13 @@ static bool is_breaking;
 
 static void add(const struct held *it)
 {
-    if (count == MOST_HELD)
-        answer(it->id, 0, EAGAIN);
-    else
+    if (count < MOST_HELD) {
         held[count++] = *it;
+        return;
+    }
+    if (it->seat)
+        break_wait(it->seat);
+    answer(it->id, 0, EAGAIN);
 }
 
 static void drop(unsigned i)
@@ -100,7 +103,8 @@ void break_wait(unsigned seat)
             drop(i);
 }
 
-/* A request whose process was interrupted is no longer there: its wait ends, before the process asks again. */
+/* A request whose process was killed is no longer there, and before Linux 5.19 one that a signal interrupted: its wait
+ * ends, before the process asks again. */
 void look_at_held(void)
 {
     for (unsigned i = count; i-- > 0;) {
@@ -110,6 +114,22 @@ void look_at_held(void)
             break_wait(held[i].seat);
         else
             drop(i);
+        i = i > count ? count : i;
+    }
+}
+
+/* A signal ends a wait, as on Linux: the process takes it after the answer. */
+void look_at_signals(void)
+{
+    for (unsigned i = count; i-- > 0;) {
+        struct held it = held[i];
+        if (!has_signal(it.pid))
+            continue;
+        if (it.seat)
+            break_wait(it.seat);
+        else
+            drop(i);
+        answer(it.id, 0, EINTR);
         i = i > count ? count : i;
     }
 }

@@ -4,7 +4,7 @@
  *        clients bad         pointers that point nowhere, and to the end of a page
  *        clients closed N    a descriptor is closed while its wait for console N goes on
  *        clients alarm N     a wait for console N that a signal interrupts, and one that goes on after a signal
- *        clients storm N     N requests while another process sends signals all the time
+ *        clients storm N     N requests of each of two kinds, and signals at every moment of them
  *        clients paths P ..  the console in front, as each path has it
  *        clients threads     two threads that ask at once
  *        clients deaf N      a program that never reads, on console N
@@ -26,7 +26,7 @@
 #include <sys/wait.h>
 #include <unistd.h>
 
-enum { PAGE = 4096, WAIT_MS = 200, MANY = 100, LONGEST = 1000000 };
+enum { PAGE = 4096, WAIT_MS = 200, MANY = 100, ALARMS = 3, MOST_DELAY_US = 40 };
 
 static int opened(const char *path)
 {
@@ -94,6 +94,14 @@ static int bad(void)
 
 static int shared_fd, wanted;
 
+/* Waits until a thread of this process is held in a wait: then its others are refused (docs/reference/vtrun.md). */
+static void until_held(int fd)
+{
+    int mode;
+    while (ioctl(fd, KDGETMODE, &mode) == 0)
+        usleep(1000);
+}
+
 static void *wait_for_it(void *unused)
 {
     (void)unused;
@@ -108,7 +116,7 @@ static int closed(int n)
     wanted = n;
     int other = opened("/dev/tty1");
     pthread_create(&thread, NULL, wait_for_it, NULL);
-    usleep(WAIT_MS * 1000);
+    until_held(other);
     close(shared_fd);
     if (fork() == 0) {
         printf("switched %s\n", word_of(ioctl(other, VT_ACTIVATE, n)));
@@ -120,7 +128,7 @@ static int closed(int n)
     return 0;
 }
 
-static volatile sig_atomic_t alarms;
+static volatile sig_atomic_t alarms, alarms_left, next_alarm;
 
 static void on_alarm(int number)
 {
@@ -128,51 +136,79 @@ static void on_alarm(int number)
     alarms++;
 }
 
-static void start_alarms(int flags)
+static int told[2];
+
+static void tell_alarm(int number)
 {
-    struct sigaction action = { .sa_handler = on_alarm, .sa_flags = flags };
-    struct itimerval soon = { .it_value = { 0, WAIT_MS * 1000 }, .it_interval = { 0, flags ? WAIT_MS * 1000 : 0 } };
-    sigaction(SIGALRM, &action, NULL);
-    setitimer(ITIMER_REAL, &soon, NULL);
+    on_alarm(number);
+    if (write(told[1], "", 1) != 1)
+        _exit(1);
 }
 
+static void start_alarms(void (*on)(int), int flags)
+{
+    struct sigaction action = { .sa_handler = on, .sa_flags = flags };
+    struct itimerval again = { .it_value = { 0, WAIT_MS * 1000 }, .it_interval = { 0, WAIT_MS * 1000 } };
+    sigaction(SIGALRM, &action, NULL);
+    setitimer(ITIMER_REAL, &again, NULL);
+}
+
+/* Alarms come until one interrupts the wait; then others, until a child has seen two of them and switches. */
 static int interrupted(int n)
 {
-    int fd = opened("/dev/tty0"), status;
-    start_alarms(0);
+    int fd = opened("/dev/tty0"), result, status;
+    if (pipe(told))
+        return 1;
+    start_alarms(on_alarm, 0);
     printf("interrupted %s\n", word_of(ioctl(fd, VT_WAITACTIVE, n)));
+    fflush(stdout);
+    alarms = 0;
     pid_t child = fork();
     if (child == 0) {
-        usleep(5 * WAIT_MS * 1000);
+        char one;
+        for (int i = 0; i < 2; i++)
+            if (read(told[0], &one, 1) != 1)
+                _exit(1);
         _exit(ioctl(fd, VT_ACTIVATE, n) ? 1 : 0);
     }
-    alarms = 0;
-    start_alarms(SA_RESTART);
-    int result = ioctl(fd, VT_WAITACTIVE, n);
+    start_alarms(tell_alarm, SA_RESTART);
+    do
+        result = ioctl(fd, VT_WAITACTIVE, n);
+    while (result < 0 && errno == EINTR);
     printf("went on %s after %s signals\n", word_of(result), alarms >= 2 ? "several" : "few");
     waitpid(child, &status, 0);
     return 0;
 }
 
-/* Each request must have been made exactly once, however often a signal came: LED states alternate. */
+static void strike(void)
+{
+    struct itimerval soon = { .it_value = { 0, next_alarm } };
+    if (alarms_left-- > 0)
+        setitimer(ITIMER_REAL, &soon, NULL);
+}
+
+static void on_strike(int number)
+{
+    on_alarm(number);
+    strike();
+}
+
+/* A timer goes off up to three times during each request, sooner or later: each must be made exactly once all the same.
+ * The journal has how often it was made. */
 static int storm(int count)
 {
     int fd = opened("/dev/tty1"), wrong = 0, failed = 0;
-    pid_t parent = getpid();
-    struct sigaction action = { .sa_handler = on_alarm, .sa_flags = SA_RESTART };
+    struct sigaction action = { .sa_handler = on_strike, .sa_flags = SA_RESTART };
     sigaction(SIGALRM, &action, NULL);
-    pid_t child = fork();
-    while (child == 0)
-        if (kill(parent, SIGALRM))
-            _exit(0);
-    for (int i = 0; i < count || (alarms < MANY && i < LONGEST); i++) {
+    for (int i = 0; i < count; i++) {
         int mode = -1;
+        next_alarm = 1 + i % MOST_DELAY_US;
+        alarms_left = ALARMS;
+        strike();
         failed += ioctl(fd, KDSETMODE, i & 1) != 0;
         failed += ioctl(fd, KDGETMODE, &mode) != 0;
         wrong += mode != (i & 1);
     }
-    kill(child, SIGKILL);
-    wait(NULL);
     printf("wrong %d failed %d signals %s\n", wrong, failed, alarms >= MANY ? "many" : "few");
     return 0;
 }

@@ -153,7 +153,10 @@ int main(int count, char **words)
             running++;
         }
         int how;
-        if (wait(&how) > 0)
+        pid_t child = waitpid(-1, &how, WUNTRACED);
+        if (child > 0 && WIFSTOPPED(how))
+            kill(child, SIGKILL); /* (SIGSTOP was the signal of a console) */
+        else if (child > 0)
             running--;
     }
     printf("seed %llu: %d processes came and went\n", (unsigned long long)seed, started);

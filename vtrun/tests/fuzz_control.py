@@ -54,7 +54,7 @@ def connected():
     """A new connection."""
     one = socket.socket(socket.AF_UNIX)
     one.connect(os.environ["VTRUN_SOCKET"])
-    one.settimeout(20)
+    one.settimeout(100)
     return one
 
 

@@ -5,7 +5,7 @@
 # real-programs.txt has what it printed on a console of Linux; dev/checks/check_vtrun.py compares.
 ask() {
     echo "== $*"
-    timeout 10 "$@" < /dev/tty 2>&1 | head -n 8
+    timeout 100 "$@" < /dev/tty 2>&1 | head -n 8
     echo "status ${PIPESTATUS[0]}"
 }
 

@@ -62,6 +62,10 @@ static void begin(void)
 
 static void answer(void)
 {
+    while (acquires) {
+        acquires--;
+        say("acquired", request(VT_RELDISP, (void *)VT_ACKACQ));
+    }
     while (releases) {
         releases--;
         if (strcmp(how, "hang") == 0)
@@ -70,10 +74,6 @@ static void answer(void)
             say("refused", request(VT_RELDISP, (void *)0));
         else
             say("released", request(VT_RELDISP, (void *)1));
-    }
-    while (acquires) {
-        acquires--;
-        say("acquired", request(VT_RELDISP, (void *)VT_ACKACQ));
     }
 }
 

@@ -1,3 +1,5 @@
+mod Edited
 mod Entered
+mod Fillings
 mod HandleParts
 mod Prefixes

@@ -1,5 +1,6 @@
 pub mod Admitted
 pub mod Calls
+pub mod Cells
 pub mod Codes
 pub mod Keymaps
 pub mod Loans

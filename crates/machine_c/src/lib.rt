@@ -4,6 +4,7 @@
 
 mod admitting;
 mod calling;
+mod changing;
 mod code;
 mod handing_over;
 mod handle;
@@ -14,10 +15,12 @@ mod loan;
 mod making;
 mod marks;
 mod numbers;
+mod picturing;
 mod reading;
 mod redrawing;
 mod rows;
 mod sending;
+mod shown_cells;
 mod starting;
 mod vt_cell;
 mod vt_console;

@@ -1,4 +1,5 @@
 //! Reads the cells of a console.
+ghost use Rattle.std.specs.List.{flat_map};
 ghost use Rattle.std.specs.Prelude.{◌≡◌, ◌<◌, ◌≤◌, ◌⊎◌, IfNone, IfSome, MatchOption, map, option_copied};
 ghost use Rattle.machine_c.specs.Codes.{NOTHING, OK, RANGE};
 ghost use Rattle.machine_c.specs.Loans.{IsSameLoan};
@@ -40,6 +41,25 @@ pub extern "C" fn vt_lent_machine_row(
     answer
 }
 
+/// All cells of a console, row by row from the top left.
+#[unsafe(no_mangle)]
+pub extern "C" fn vt_lent_machine_cells(loan: &mut MachineLoan, n: u32, cells: &mut [VtCell]) -> u8
+    ensures same { IsSameLoan loan.old loan.new }
+    ensures nothing { IfNone loan.old.value ((result ≡ NOTHING) × (cells.new ≡ cells.old)) }
+    ensures cells { IfSome loan.old.value (λ m. MatchOption (emu_of (console_at m.world n))
+        ((result ≡ RANGE) × (cells.new ≡ cells.old))
+        (λ emu. (result ≡ OK)
+        × (cells.new ≡ with_items (flat_map (map c_cell) emu.state.grid.cells) cells.old))) }
+{
+    let lent = loan.take();
+    let answer = match lent.get() {
+        None => code::NOTHING,
+        Some(machine) => read_all(machine, n, cells),
+    };
+    loan.put(lent);
+    answer
+}
+
 fn read_row(machine: &Machine, n: u32, row: u32, cells: &mut [VtCell]) -> u8
     ensures { MatchOption (emu_of (console_at machine.now.world n))
         ((result ≡ RANGE) × (cells.new ≡ cells.old))
@@ -50,6 +70,21 @@ fn read_row(machine: &Machine, n: u32, row: u32, cells: &mut [VtCell]) -> u8
     match screen_of(machine, n) {
         None => code::RANGE,
         Some(emu) => row_of(emu.grid(), row, cells),
+    }
+}
+
+fn read_all(machine: &Machine, n: u32, cells: &mut [VtCell]) -> u8
+    ensures { MatchOption (emu_of (console_at machine.now.world n))
+        ((result ≡ RANGE) × (cells.new ≡ cells.old))
+        (λ emu. (result ≡ OK)
+        × (cells.new ≡ with_items (flat_map (map c_cell) emu.state.grid.cells) cells.old)) }
+{
+    match screen_of(machine, n) {
+        None => code::RANGE,
+        Some(emu) => {
+            put_all(emu.grid(), cells);
+            code::OK
+        }
     }
 }
 
@@ -86,5 +121,21 @@ fn put_cells(grid: &Grid, y: u8, places: &mut [VtCell])
     while n < count {
         places[n] = VtCell::of(grid.at(y, n as u8));
         n += 1;
+    }
+}
+
+// Writes the cells of all rows into the first places.
+fn put_all(grid: &Grid, places: &mut [VtCell])
+    ensures { places.new ≡ with_items (flat_map (map c_cell) grid.now.cells) places.old }
+{
+    grid.stays_full();
+    let mut n = 0;
+    for y in 0..grid.size().rows {
+        for cell in grid.row(y) {
+            if n < places.len() {
+                places[n] = VtCell::of(cell);
+                n += 1;
+            }
+        }
     }
 }

@@ -1,4 +1,5 @@
-ghost use Rattle.std.specs.Prelude.{◌≡◌};
+ghost use Rattle.std.specs.Prelude.{◌≡◌, ◌↔◌, IsTrue};
+ghost use Rattle.machine_c.specs.Cells.{IsPlain, cell_of};
 ghost use Rattle.machine_c.specs.Shown.{c_cell};
 
 use vt_cells::Cell;
@@ -24,5 +25,22 @@ impl VtCell {
             attr: cell.attr,
             spare: [0; 3],
         }
+    }
+
+    /// The cell that C passes so.
+    pub(crate) fn cell(&self) -> Cell
+        ensures { result ≡ cell_of self.now }
+    {
+        Cell {
+            code: self.code,
+            attr: self.attr,
+        }
+    }
+
+    /// Whether no spare byte is set.
+    pub(crate) fn is_plain(&self) -> bool
+        ensures { IsTrue result ↔ IsPlain self.now }
+    {
+        self.spare == [0; 3]
     }
 }

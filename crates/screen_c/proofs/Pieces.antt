@@ -1,10 +1,12 @@
 -- A text that is run piece by piece, and the places of its side effects.
 use Rattle.screen_c.specs.Shown.{c_out}
 use Rattle.screen_c.specs.declared.vt_out.VtOut.{VtOut}
-use Rattle.std.proofs.Common.{◌≡◌, ℕ, ◌+◌, ◌-◌, ◌<◌, List, ◌∷◌, ◌++◌, Option, Some, add-one, set, length, map, take, drop, sym, ap, ◌∙◌, arith, length-drop, append-nil, append_assoc, ⊎_elim}
+use Rattle.std.proofs.Common.{◌≡◌, ℕ, ◌+◌, ◌-◌, ◌<◌, ◌≤◌, List, ◌∷◌, ◌++◌, Option, Some, add-one, set, length, map, take, drop, sym, ap, ◌∙◌, arith, length-drop, append-nil, append_assoc, ⊎_elim}
 use Rattle.std.proofs.Math.Seq.{take-add, take-append_seam, drop-append-add, set_split}
 use Rattle.std.proofs.lemmas.Bool.{cases_lt}
 use Rattle.std.proofs.lemmas.List.{drop-drop, length-append, length-map, map-append, take_all}
+use Rattle.vt_cells.specs.declared.cell.Cell.{Cell}
+use Rattle.vt_screen.specs.Falling.{AnyRowCut, IsLevelBefore, rows_of_run}
 use Rattle.vt_screen.specs.Run.{AnyCut, IsQuietBefore, after, outs_of_option, outs_of_run}
 use Rattle.vt_canvas.specs.Screen.{Screen}
 use Rattle.vt_canvas.specs.declared.out.Out.{Out}
@@ -90,3 +92,31 @@ one_put o out x places n is made room =
     ∙ ap (λ k. take n places ++ (x ∷ drop k places)) (sym (add-one n))
     ∙ ap (λ y. take n places ++ (y ∷ drop (n + 1) places)) made
     ∙ ap (λ e. take n places ++ (map c_out (outs_of_option e) ++ drop (n + length (outs_of_option e)) places)) (sym is)
+
+-- the rows of a piece stand behind those before it
+pub rows_more : AnyRowCut → (start before : Reached Screen) (at n : ℕ) (text : List ℕ)
+    → before ≡ after start (take at text)
+    → rows_of_run start (take at text) ++ rows_of_run before (piece at n text) ≡ rows_of_run start (take (at + n) text)
+rows_more cut start before at n text done =
+    ap (λ (m : Reached Screen). rows_of_run start (take at text) ++ rows_of_run m (piece at n text)) done
+    ∙ sym (cut start (take at text) (piece at n text))
+    ∙ ap (rows_of_run start) (joined at n text)
+
+-- two rows had room before each of the first bytes, and so before each of n more
+pub rows_room_more : AnyRowCut → (start before : Reached Screen) (at n most : ℕ) (text : List ℕ)
+    → before ≡ after start (take at text) → length (rows_of_run start (take at text)) + 2 ≤ most
+    → ((k : ℕ) → k < at → length (rows_of_run start (take k text)) + 2 ≤ most)
+    → IsLevelBefore n before (take (length text - at) (drop at text))
+    → (k : ℕ) → k < at + n → length (rows_of_run start (take k text)) + 2 ≤ most
+rows_room_more cut start before at n most text done room first level k less = ⊎_elim
+    (λ (early : k < at). first k early)
+    (λ late.
+    let j : ℕ = k - at in
+    let place : at + j ≡ k = omega (arith, late) in
+    let same : rows_of_run start (take at text) ≡ rows_of_run start (take k text) =
+    sym (append-nil (rows_of_run start (take at text)))
+    ∙ ap (λ (more : List (List Cell)). rows_of_run start (take at text) ++ more) (sym (level j (omega (arith, late, less))))
+    ∙ rows_more cut start before at j text done
+    ∙ ap (λ (i : ℕ). rows_of_run start (take i text)) place in
+    omega (arith, room, ap length same))
+    (cases_lt k at)

@@ -75,12 +75,13 @@ fn feed(emu: &mut Emu, b: &[u8], places: &mut [VtOut]) -> VtFed
     VtFed {
         taken: at,
         outs: n,
-        spare: [0; 2],
+        rows: 0,
+        spare: [0; 1],
     }
 }
 
-// Writes a side effect, if there is one, into a place. Returns the number of places that were written.
-fn put_effect(effect: &SideEffect, places: &mut [VtOut], n: usize) -> usize
+/// Writes a side effect, if there is one, into a place. Returns the number of places that were written.
+pub(crate) fn put_effect(effect: &SideEffect, places: &mut [VtOut], n: usize) -> usize
     requires room { n < length places.old }
     ensures count { result ≡ length (outs_of_option effect.now) }
     ensures one { result ≤ 1 }

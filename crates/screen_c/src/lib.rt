@@ -5,6 +5,7 @@ mod code;
 mod colours;
 mod columns;
 mod feeding;
+mod feeding_by_rows;
 mod handing_over;
 mod handle;
 mod lent_screen;

@@ -157,7 +157,11 @@ module _ {K W Z : Type 0} (before : ℕ) (entries : K → List (Entry W)) (seal 
       let told : (k' : K) → get_elem? homes' 0 ≡ some (some (Some k')) → entries k' ≡ log = λ k' q.
       let x = set_here s.homes 0 (some (Some k)) (omega arith) in
       let y : some (some (Some k)) ≡ some (some (Some k')) = sym x ∙ q in let same : k ≡ k' = cc in
-      ap entries (sym same) ∙ (tells ∙ whole) in (
+      ap entries (sym same) ∙ (tells ∙ whole) in
+      let own : (t ≡ a.serving) × (t < a.next) × (a.holder t ≡ id)
+      × (a.out ≡ true) = subst (Queued a.next a.serving a.holder a.out id) has (a.queued id v at) in
+      let number : get_or s.words 1 0 ≡ ticket_of v.stage % 2 ^ 64 = a.serving_is
+      ∙ ap (λ u. u % 2 ^ 64) (sym own.0 ∙ sym (ap ticket_of has)) in (
         w,
         gives,
         tt,
@@ -173,7 +177,7 @@ module _ {K W Z : Type 0} (before : ℕ) (entries : K → List (Entry W)) (seal 
           still before Right joined log s.words words' s.homes homes' s.views id v w d (d.known id v at) (d.read id v at),
         ),
         (λ k' e. let taken : Some k ≡ Some k' = ap (first_value (Some k)) e in
-            let same : k ≡ k' = cc in ap (λ (y : K). (without_turn (seal y) v, [])) same),
+            let same : k ≡ k' = cc in (ap (λ (y : K). (without_turn (seal y) v, [])) same, number)),
       )
 
   -- a fetch_add of `serving`: the value is back in the slot

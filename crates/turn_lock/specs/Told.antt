@@ -83,9 +83,11 @@ module _ {K W Z : Type 0} where
   abbrev pub StoresFront : List (Entry W) → At K → Sat K W Z → ℕ → Sat K W Z → Type 0
   StoresFront more st m n m' = m' ≡ (with_published (m.0.seen ++ more) m.0, m.1)
 
-  -- the pass gave the value back
+  -- the pass gave the value back, and the number is that of its ticket
   abbrev pub EndsTurn : (K → Option (Seal Z)) → At K → Sat K W Z → ℕ → Sat K W Z → Type 0
-  EndsTurn seal st m n m' = (k : K) → m.1 ≡ (0, Some k) ∷ [] → m' ≡ (without_turn (seal k) m.0, [])
+  EndsTurn seal st m n m' =
+      (k : K) → m.1 ≡ (0, Some k) ∷ []
+      → (m' ≡ (without_turn (seal k) m.0, [])) × (n ≡ ticket_of m.0.stage % 2 ^ 64)
 
   -- of the histories that the first pass and the pass that it joined last had seen, the longer begins
   -- with both, and so does the longer of those that they had read; the number of the joined pass was

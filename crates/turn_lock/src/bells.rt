@@ -2,10 +2,25 @@ ghost use Rattle.std.specs.Prelude.{◌≡◌, vec_len, IfOk};
 
 use crossbeam_utils::sync::{EventCount, Key};
 use std::alloc::Global;
+use std::marker::Model;
 use vt_base::NoMemory;
 
 /// Numbers that are this many apart share a bell.
 const BELLS: usize = 128;
+
+/// That the bell of a number was rung. [`Bells::ring`] alone makes one. Contracts see the number.
+#[derive(Drop)]
+pub struct Rung {
+    number: u64,
+}
+
+impl Model for Rung {
+    ghost use Rattle.std.specs.Prelude.{ℕ};
+
+    ghost Value = { ℕ };
+
+    ghost view = { λ r. r.number };
+}
 
 /// Bells for numbers that are drawn in turn: a caller that waits for its number sleeps at the number's bell.
 #[derive(Drop)]
@@ -27,8 +42,11 @@ impl Bells {
     }
 
     /// Ends every wait at the bell of this number.
-    pub(crate) fn ring(&self, number: u64) {
+    pub(crate) fn ring(&self, number: u64) -> Rung
+        ensures { result ≡ number }
+    {
         self.bell(number).notify_all();
+        Rung { number }
     }
 
     fn bell(&self, number: u64) -> &EventCount {

@@ -1,10 +1,10 @@
 //! The door: a caller that finds the lock taken waits here before it draws a ticket. The rule of its
-//! counts is proved (`specs/Door.antt`). No clause states that a caller is called in:
+//! counts is proved (`specs/Door.antt`). No clause states which caller is called in:
 //! docs/library/lock.md has the argument that no caller sleeps there for ever.
 ghost use Rattle.std.specs.Prelude.{◌≡◌, ◌≤◌, true};
 ghost use Rattle.turn_lock.specs.Visits.{HasCome, WaitsAt};
 
-use crate::bells::Bells;
+use crate::bells::{Bells, Rung};
 use crate::counts::{
     Arrive, CALLED, CAME, CallIn, ComeIn, Counts, DrawNumber, ENTERED, LookForCall, ReadCame,
     ReadEntered,
@@ -19,6 +19,12 @@ use vt_base::NoMemory;
 
 /// How many turns the others have after a caller was called in, until they stand aside for it.
 const TURNS: u64 = 128;
+
+/// That a caller looked whether it has to call one in, and did so. [`Door::call`] alone makes one.
+#[derive(Drop)]
+pub struct Looked {
+    rung: Option<Rung>,
+}
 
 /// Each caller that comes to the door draws a number. Callers are called in by their numbers, one at a
 /// time: the next one when the last one has come in.
@@ -96,17 +102,19 @@ impl Door {
 
     /// Calls in the caller that came first, unless one that was called in is still on its way. `served` is
     /// the ticket that is served.
-    pub(crate) fn call(&self, served: u64) {
+    pub(crate) fn call(&self, served: u64) -> Looked {
         let counts = &self.counts.shared;
         let called = counts.peek(CALLED);
         let (entered, mut seat) = counts.load_new_seat::<ReadEntered>(ENTERED);
         if called != entered || called == counts.load::<ReadCame>(&mut seat, CAME) {
-            return;
+            return Looked { rung: None };
         }
         let next = called.wrapping_add(1);
         if counts.compare_exchange::<CallIn>(&mut seat, CALLED, called, next) == called {
             self.since.store(served, SeqCst);
-            self.bells.ring(called);
+            let rung = Some(self.bells.ring(called));
+            return Looked { rung };
         }
+        Looked { rung: None }
     }
 }

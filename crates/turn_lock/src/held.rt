@@ -1,16 +1,25 @@
-ghost use Rattle.std.specs.Prelude.{◌≡◌, ◌<◌, ◌^◌, ◌++◌, ◌∷◌, [], length, None};
+ghost use Rattle.std.specs.Prelude.{◌≡◌, ◌<◌, ◌+◌, ◌%◌, ◌^◌, ◌++◌, ◌∷◌, [], length, None};
 ghost use Rattle.turn_lock.specs.History.{word_of};
 ghost use Rattle.turn_lock.specs.declared.entry.Entry.{Entry};
-ghost use Rattle.turn_lock.specs.Views.{with_published, without_turn};
+ghost use Rattle.turn_lock.specs.Views.{ticket_of, with_published, without_turn};
 ghost use Rattle.turn_lock.specs.Words.{AddsNext, HasTurnIn, MaySeal, RestsWith};
 ghost use Rattle.turn_lock.specs.Words.{lock_of, pass_of, value_of, view};
 
 use crate::atomic_steps::{Adding, EndTurn, StoreFront};
+use crate::bells::Rung;
 use crate::board::{FRONT, SERVING, SLOT};
+use crate::door::Looked;
 use crate::kept::Kept;
 use crate::lock::TurnLock;
 use crate::pass::Pass;
 use std::marker::Brand;
+
+/// What a caller did when it left: the bell that it rang, and its look at the door. [`Held::leave`] alone makes one.
+#[derive(Drop)]
+pub struct Left {
+    pub(crate) rung: Rung,
+    pub(crate) looked: Looked,
+}
 
 /// The value, while a pass has its turn. `leave` has to be called.
 pub struct Held<'a, K: Kept> {
@@ -41,21 +50,24 @@ impl<'a, K: Kept> Held<'a, K> {
         show::<K, Brand>(self.lock, self.pass, &self.value, front);
     }
 
-    /// Gives the value back, and ends the turn.
-    pub fn leave(self)
+    /// Gives the value back, ends the turn, rings the bell of the ticket after this one, and looks at the door for a
+    /// caller to call in.
+    pub fn leave(self) -> Left
         requires own { HasTurnIn (lock_of self) (pass_of self) }
         requires told { K.entries (value_of self) ≡ (view (pass_of self)).seen }
         requires seal { MaySeal (K.seal (value_of self)) (view (pass_of self)) }
-        ensures { RestsWith (lock_of self.entry)
+        ensures rests { RestsWith (lock_of self.entry)
             (without_turn (K.seal (value_of self.entry)) (view (pass_of self.entry))) self.exit.1.0.now }
+        ensures rung { result.rung ≡ (ticket_of (view (pass_of self.entry)).stage + 1) % 2 ^ 64 }
     {
         let Held { lock, pass, value } = self;
         let shared = &lock.board.shared;
         let before = shared.exchange(&mut pass.place, SLOT, Some(value));
         let None = before else { unreachable!() };
         let served = shared.fetch_add::<EndTurn>(&mut pass.place, SERVING, 1);
-        lock.bells.ring(served.wrapping_add(1));
-        lock.door.call(served);
+        let rung = lock.bells.ring(served.wrapping_add(1));
+        let looked = lock.door.call(served);
+        Left { rung, looked }
     }
 }
 

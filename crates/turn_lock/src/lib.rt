@@ -17,8 +17,10 @@ mod seal;
 mod view;
 mod visitor;
 
+pub use bells::Rung;
+pub use door::Looked;
 pub use entry::Entry;
-pub use held::Held;
+pub use held::{Held, Left};
 pub use kept::Kept;
 pub use lock::TurnLock;
 pub use pass::Pass;

@@ -152,7 +152,7 @@ impl<K: Kept> TurnLock<K> {
         let mut visitor = self.door.visit();
         // If no ticket is out, no other caller needs to come and leave: this one does the call.
         if let Some(served) = self.idle() {
-            self.door.call(served);
+            let _ = self.door.call(served);
         }
         self.door.wait(rt, &mut visitor);
         visitor.leave();

@@ -2,6 +2,7 @@ pub mod Change
 pub mod Cursor
 pub mod Effect
 pub mod Erasing
+pub mod Falling
 pub mod Kept
 pub mod Printing
 pub mod Saying

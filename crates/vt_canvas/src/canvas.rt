@@ -11,6 +11,7 @@ ghost use Rattle.vt_canvas.specs.Screen.{IsWhole, blank_of, mode_of, start_scree
 mod controls;
 mod erases;
 mod escapes;
+mod falling;
 mod moves;
 mod prefixes;
 mod print;

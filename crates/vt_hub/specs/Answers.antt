@@ -8,7 +8,7 @@ use Rattle.vt_events.specs.declared.event.Event.{Event}
 use Rattle.vt_events.specs.declared.reply.Reply.{Reply}
 use Rattle.vt_hub.specs.Histories.{BeginsWith, IsRead, awaits, made_by}
 use Rattle.vt_hub.specs.Views.{PassView}
-use Rattle.vt_hub.specs.Waiters.{AreEnded}
+use Rattle.vt_hub.specs.Waiters.{AreAll, AreEnded}
 use Rattle.vt_hub.specs.declared.answer.Answer.{Answer}
 use Rattle.vt_hub.specs.declared.answer.Answer.TheVariants as answer
 use Rattle.vt_hub.specs.declared.turned.Turned.{Turned}
@@ -100,10 +100,10 @@ pub record WakesEnded (start : WorldState) (w : PassView) (set : ℕ) : Type 0 w
   pub seen : w.seen ≡ before ++ entry ∷ []
   pub ended : AreEnded (replay start before) (replay start w.seen) set
 
--- the result of one turn of the pass v with the call e: an answer, and after an entered call those that were woken; or
--- none while its caller's ticket is open
+-- the result of one turn of the pass v with the call e: an answer with those that were woken, which are all processes if
+-- the hub has stopped; or none while its caller's ticket is open
 abbrev pub Turns : WorldState → Limits → Event → PassView → PassView → Turned → Type 0
 Turns start most e v w (turned.Done place reply woken) =
     Called start most e v w place reply × WakesEnded start w woken.bits
-Turns start most e v w (turned.Full full) = Stopped start most e v w full
+Turns start most e v w (turned.Full full woken) = Stopped start most e v w full × AreAll woken.bits
 Turns start most e v w turned.Waits = Waited start v w

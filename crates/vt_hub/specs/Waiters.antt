@@ -1,6 +1,6 @@
 -- Sets of processes as numbers, and the processes whose tickets are open or were ended. This project's own.
 use Rattle.std.specs.Int.{bit_at}
-use Rattle.std.specs.Prelude.{◌≡◌, ℕ, Bool, ◌%◌, ◌==◌, ◌≤◌, ◌&&◌, not}
+use Rattle.std.specs.Prelude.{◌≡◌, ℕ, Bool, ◌%◌, ◌==◌, ◌≤◌, ◌&&◌, not, true}
 use Rattle.vt_world.specs.State.{WorldState, is_waiting}
 
 -- the number of a process
@@ -19,3 +19,7 @@ AreOpen w set = (p : ℕ) → IsProcess p → has_process set p ≡ is_waiting w
 abbrev pub AreEnded : WorldState → WorldState → ℕ → Type 0
 AreEnded before after set =
     (p : ℕ) → IsProcess p → has_process set p ≡ (is_waiting before p && not (is_waiting after p))
+
+-- the set is that of all processes
+abbrev pub AreAll : ℕ → Type 0
+AreAll set = (p : ℕ) → IsProcess p → has_process set p ≡ true

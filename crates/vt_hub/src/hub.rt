@@ -149,7 +149,7 @@ impl<J: Opening> Hub<J> {
         let mut spare = spare;
         let answer = match self.turn(rt, p, &mut event, &mut spare) {
             Turned::Done { at, reply, .. } => Answer::Done { at, reply },
-            Turned::Full(full) => Answer::Full(full),
+            Turned::Full { full, .. } => Answer::Full(full),
             Turned::Waits => unreachable!(),
         };
         spare.keep_grid(&mut p.kept);
@@ -169,7 +169,7 @@ impl<J: Opening> Hub<J> {
             let mut none = Spare::none(self.alloc);
             match self.turn(rt, p, &mut event, &mut none) {
                 Turned::Done { at, reply, .. } => return Answer::Done { at, reply },
-                Turned::Full(full) => return Answer::Full(full),
+                Turned::Full { full, .. } => return Answer::Full(full),
                 Turned::Waits => key.wait(rt),
             }
         }
@@ -177,7 +177,7 @@ impl<J: Opening> Hub<J> {
     }
 
     // One turn of the caller, which enters the call unless its ticket is open, and wakes exactly the processes whose
-    // tickets this call ended. An entered call takes its event, and of its memory the parts that it uses. Both are
+    // tickets this call ended; all processes if the hub has stopped. An entered call takes its event, and of its memory the parts that it uses. Both are
     // lent, so that they are not moved through each function.
     fn turn<R: Wait>(&self, rt: &R, p: &mut Pass<J>, event: &mut Event, spare: &mut Spare) -> Turned
         requires own { p.old.hub ≡ self.now }
@@ -201,8 +201,8 @@ impl<J: Opening> Hub<J> {
             }
             Look::Full(full) => {
                 held.leave();
-                self.wake_ups.wake_all();
-                Turned::Full(full)
+                let woken = self.wake_ups.wake_all();
+                Turned::Full { full, woken }
             }
             Look::Waits => {
                 held.leave();

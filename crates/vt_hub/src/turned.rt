@@ -14,7 +14,11 @@ pub(crate) enum Turned {
         woken: Waiters,
     },
     /// The hub has stopped, by this call or by an earlier one.
-    Full(Full),
+    Full {
+        full: Full,
+        /// The processes that were woken: all.
+        woken: Waiters,
+    },
     /// The caller's ticket is open.
     Waits,
 }

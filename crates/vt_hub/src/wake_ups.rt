@@ -1,5 +1,5 @@
 ghost use Rattle.std.specs.Prelude.{◌≡◌, ◌==◌, ◌%◌, ◌||◌, ℕ, vec_len, IfOk, if◌then◌else◌};
-ghost use Rattle.vt_hub.specs.Waiters.{IsProcess, has_process};
+ghost use Rattle.vt_hub.specs.Waiters.{AreAll, IsProcess, has_process};
 
 use crate::waiters::{Ended, Waiters};
 use crossbeam_utils::sync::{EventCount, Key};
@@ -54,11 +54,16 @@ impl WakeUps {
         woken.with(caller)
     }
 
-    /// Wakes every caller.
-    pub(crate) fn wake_all(&self) {
-        for wake_up in &self.each {
-            wake_up.notify_all();
+    /// Wakes every process. A keyboard never waits.
+    pub(crate) fn wake_all(&self) -> Waiters
+        ensures { AreAll result.bits }
+    {
+        let mut woken = Waiters::none();
+        for caller in CallerNo::processes() {
+            self.of(caller).notify_all();
+            woken = woken.with(caller);
         }
+        woken
     }
 
     fn of(&self, caller: CallerNo) -> &EventCount {

@@ -1,20 +1,11 @@
 -- The printable bytes at the front of a text.
-use Rattle.std.proofs.Common.{◌≡◌, ◌<◌, ◌==◌, ◌&&◌, ◌||◌, ◌≤◌, arith, length, ℕ, suc, Bool, true, false, ◌+◌, ◌-◌, List, [], ◌∷◌, ◌++◌, take, refl, sym, ap, subst, ◌∙◌, cond, nat_lt, eqb-true, leb-true, nat_le, ◌≢◌, drop, get_or, length-drop, append_assoc, length-append, if◌then◌else◌}
-use Rattle.std.proofs.lemmas.Bool.{and_parts, cond-true, cond-false}
-use Rattle.std.proofs.lemmas.Bool.Decides.{nat_tests}
-use Rattle.std.proofs.lemmas.List.{append-nil, drop-drop, length-map, map-append, take-append-drop, take-take, take_all, take_more}
+use Rattle.std.proofs.Common.{◌≡◌, ◌<◌, arith, ℕ, Bool, true, false, List, [], ◌∷◌, ◌++◌, take, refl, sym, ap, subst, leb-true, nat_le, ◌≢◌, if◌then◌else◌}
+use Rattle.std.proofs.lemmas.Bool.{and_parts}
 use Rattle.vt_screen.proofs.Printed.{AllPrintable, prefix_printable}
 use Rattle.vt_units.specs.Bytes.{is_printable}
 use Rattle.std.specs.List.{prefix_len}
-use Rattle.vt_cells.specs.Width.{AtMostTwo, LowTakeOne, PlainTakeOne, columns, half, is_plain}
-use Rattle.vt_cells.specs.declared.cell.Cell.{Cell}
-use Rattle.vt_grid.specs.Grid.{cells_of_codes, row_at}
-use Rattle.vt_grid.specs.Halves.{with_cells_at}
-use Rattle.vt_grid.specs.Laws.{StretchesJoin}
-use Rattle.vt_canvas.specs.Cursor.{at_column, linefeed}
-use Rattle.vt_canvas.specs.Erasing.{cells_inserted}
-use Rattle.vt_canvas.specs.Printing.{cells_codes, codes_drawn, lacks_room, with_gap, print, print_character, print_characters, with_cells_at_cursor, with_character, cells_of_characters, after_wrap}
-use Rattle.vt_canvas.specs.Screen.{IsWhole, Screen, pen_byte}
+use Rattle.vt_cells.specs.Width.{LowTakeOne, columns}
+use Rattle.vt_canvas.specs.Printing.{cells_codes, cells_of_characters}
 
 -- one character of one column is its code
 one_code : (w code : ℕ) → w ≡ 1 → cells_codes w code ≡ code ∷ []

@@ -3,9 +3,11 @@ mod Controls
 mod CursorSteps
 mod Cuts
 mod FeedRuns
+mod Falling
 mod Feeds
 mod Fronts
 mod Hearing
+mod Levels
 mod Printed
 mod Quiet
 mod Sequences

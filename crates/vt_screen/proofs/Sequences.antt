@@ -15,7 +15,7 @@ use Rattle.vt_units.specs.declared.read.Read.{Read}
 use Rattle.vt_units.specs.declared.unit.Unit as units
 
 -- bytes that come to a unit are run as it
-come_run : {S : Type 0} (e : Effects S) (u : units.Unit) (m : Mode) (bytes : List ℕ) (s : S) (old : Rest)
+pub come_run : {S : Type 0} (e : Effects S) (u : units.Unit) (m : Mode) (bytes : List ℕ) (s : S) (old : Rest)
     → e.mode_of s ≡ m → ComeTo u m old bytes
     → run e bytes (make_reached s old) ≡ make_reached (e.on_unit u s) (fresh m)
 come_run e u m [] s old mode comes = absurd comes

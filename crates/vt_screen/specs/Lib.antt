@@ -1,6 +1,7 @@
 pub mod Asking
 pub mod ChangedRows
 pub mod Characters
+pub mod Falling
 pub mod Halves
 pub mod Hearing
 pub mod Inside

@@ -1,6 +1,8 @@
-ghost use Rattle.std.specs.Prelude.{◌≡◌, ◌<◌, ◌≤◌, [], ◌∷◌, None, length};
+ghost use Rattle.std.specs.Prelude.{◌≡◌, ◌<◌, ◌≤◌, [], ◌∷◌, None, length, take};
 ghost use Rattle.vt_screen.specs.Run.{HasRun, after, outs_of_option, outs_of_run, run_from, start, with_outs};
+ghost use Rattle.vt_canvas.specs.Printing.{room};
 ghost use Rattle.vt_canvas.specs.Screen.{IsWhole};
+ghost use Rattle.vt_screen.specs.Falling.{rows_of_run};
 ghost use Rattle.std.specs.Borrow.{Lends, sem};
 ghost use Rattle.vt_cells.specs.contracts.palette.Palette.{the_row as palette_row};
 ghost use Rattle.vt_screen.specs.contracts.emu.Emu.{the_row};
@@ -10,6 +12,7 @@ ghost use Rattle.vt_units.specs.Run.{make_reached};
 ghost use Rattle.vt_canvas.specs.Change.{palette, resize, user_map};
 
 mod changes;
+mod falling;
 mod same;
 mod sequences;
 
@@ -262,7 +265,8 @@ impl Emu {
     // returns their number.
     #[inline(always)]
     fn print_run(&mut self, b: &[u8]) -> usize
-        ensures { HasRun self.old b.now result self.new None }
+        ensures ran { HasRun self.old b.now result self.new None }
+        ensures level { 0 < room self.old.state → rows_of_run self.old (take result b.now) ≡ [] }
     {
         printables_are_characters();
         columns_are_few();

@@ -1,6 +1,7 @@
 //! Laws of a run, for every screen and every text.
 ghost use Rattle.vt_screen.specs.Asking.{RequestsAreFew};
 ghost use Rattle.vt_screen.specs.Characters.{TapesKeepCharacters};
+ghost use Rattle.vt_screen.specs.Falling.{AnyRowCut};
 ghost use Rattle.vt_screen.specs.Halves.{HalvesFollowWide, TapesKeepHalves};
 ghost use Rattle.vt_screen.specs.Run.{AnyCut, PiecesAct, PiecesResume, TextsAreCut};
 ghost use Rattle.vt_screen.specs.Tape.{AnyTapeCut, StretchesRun};
@@ -12,6 +13,11 @@ use vt_units::texts_spell_characters;
 /// Running the parts of a text in order is running the whole text, however it is cut.
 pub fn any_cut()
     ensures { AnyCut }
+{}
+
+/// The rows that fall out while a text is run are those of its parts, however it is cut.
+pub fn any_row_cut()
+    ensures { AnyRowCut }
 {}
 
 /// The bytes of a piece, wherever they are cut, have the effects of the control characters in it,

@@ -4,7 +4,7 @@ import pathlib
 import shutil
 import subprocess
 
-from programs import TOP, find
+from programs import TOP, find, is_clone
 
 from . import judge
 from .adapters import Program
@@ -43,8 +43,8 @@ class Vt:
 
 
 def built_folder():
-    """The folder of the compiled adapters: beside their sources, or in the user's cache if that can't be written."""
-    if os.access(BUILT if BUILT.exists() else HERE, os.W_OK):
+    """The folder of the compiled adapters: beside their sources in a clone that can be written, else the user's cache."""
+    if is_clone() and os.access(BUILT if BUILT.exists() else HERE, os.W_OK):
         return BUILT
     return pathlib.Path(os.environ.get("XDG_CACHE_HOME") or "~/.cache").expanduser() / "vt"
 
@@ -52,7 +52,9 @@ def built_folder():
 def driver(seconds, name, *options):
     """The adapter in C of an engine, compiled where it is missing or older than its sources."""
     source, built = HERE / f"{name}.c", built_folder() / name
-    newest = max(file.stat().st_mtime for file in (source, HERE / "adapter.h", *(HERE / it for it in options if isinstance(it, pathlib.Path))))
+    files = [source, HERE / "adapter.h", *(HERE / it for it in options if isinstance(it, pathlib.Path))]
+    # (the time of an installed file's contents is that of the package)
+    newest = max(max(file.stat().st_mtime, file.stat().st_ctime) for file in files)
     if not built.exists() or built.stat().st_mtime < newest:
         compiler = shutil.which("cc") or shutil.which("gcc")
         if not compiler:

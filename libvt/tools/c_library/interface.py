@@ -11,7 +11,7 @@ from .bench import TOP
 HEADER = TOP / "libvt/include/vt.h"
 STORED = TOP / "libvt/src/interface.txt"
 SYMBOLS = TOP / "debian/libvt1.symbols"
-VERSION = TOP / "man/vt.3"
+MANUAL = TOP / "man/vt.3"
 # Whether the file gets what the header has more.
 ADDS = False
 COMMENT = re.compile(r"/\*.*?\*/", re.S)
@@ -45,6 +45,33 @@ def present(layout):
     return [*lines_of_header(), *(f"place {line}" for line in layout if ".spare " not in line)]
 
 
+def prototypes_of_header():
+    """Each call of vt.h that is no inline function, with its result and its parameters."""
+    text = COMMENT.sub("", HEADER.read_text(encoding="utf-8"))
+    return [" ".join(f"{result} {name}({parameters})".split()) for result, name, parameters in CALL.findall(text)
+            if not result.startswith("static")]
+
+
+def prototypes_of_manual():
+    """The same of the synopsis of vt(3)."""
+    found, text = [], MANUAL.read_text(encoding="utf-8")
+    for line in text.partition(".Sh SYNOPSIS\n")[2].partition(".Sh DESCRIPTION\n")[0].splitlines():
+        word, _, rest = line.partition(" ")
+        parameters = re.findall(r'"([^"]*)"|(\S+)', rest)
+        names = [quoted or plain for quoted, plain in parameters]
+        if word == ".Ft":
+            result = rest
+        elif word == ".Fn":
+            found.append(f"{result} {names[0]}({', '.join(names[1:])})")
+        elif word == ".Fo":
+            name, taken = rest, []
+        elif word == ".Fa":
+            taken += names
+        elif word == ".Fc":
+            found.append(f"{result} {name}({', '.join(taken)})")
+    return found
+
+
 def package_calls():
     """The calls in the list of the package, each with the version that it came with."""
     text = SYMBOLS.read_text(encoding="utf-8") if SYMBOLS.exists() else ""
@@ -53,7 +80,7 @@ def package_calls():
 
 def add_symbols(calls):
     """Adds to the list of the package the calls that it lacks, as new in the version of vt(3)."""
-    version = re.search(r'^\.Os "vt ([\d.]+)"$', VERSION.read_text(encoding="utf-8"), re.M)[1]
+    version = re.search(r'^\.Os "vt ([\d.]+)"$', MANUAL.read_text(encoding="utf-8"), re.M)[1]
     listed = {**dict.fromkeys(calls, version), **package_calls()}
     head = ["libvt.so.1 libvt1 #MINVER#", " VT_1@VT_1 1.0.0"]
     lines = [*head, *(f" {name}@VT_1 {listed[name]}" for name in sorted(listed))]

@@ -188,6 +188,33 @@ def check_consoles(bench, vt, program):
     bench.holds(terminal.end() == 5, f"the terminal ends with the status of the command: {terminal.status}")
 
 
+def check_scrollback(bench, vt, program):
+    """Shift+PageUp shows the rows that fell out at the top, half a screen at a time; Shift+PageDown or another key
+    shows the screen again."""
+    count = "i=0; while [ $i -lt %d ]; do i=$((i+1)); echo row $i; done; "
+    terminal = Terminal([program, "sh", "-c", count % 60 + "read x; " + count % 3 + "echo la''st; read x"])
+    bench.holds(terminal.wait_for(b"row 60"), "the command writes 60 rows")
+    # 37 of them fell out: 24 rows of the screen are the others and the cursor's.
+    steps = [(b"\x1b[5;2~", "row 26"), (b"\x1b[5;2~", "row 14"), (b"\x1b[5;2~", "row 2"), (b"\x1b[5;2~", "row 1")]
+    steps += [(b"\x1b[6;2~", "row 13"), (b"\x1b[5;2~", "row 1"), (b"z", "row 38"), (b"\x1b[6;2~", "row 38")]
+    for typed, wanted in steps:
+        terminal.type(typed)
+        end = time.monotonic() + LIMIT
+        while terminal.read(0.1) and shown_rows(vt, terminal)[0] != wanted and time.monotonic() < end:
+            pass
+        rows = shown_rows(vt, terminal)
+        bench.holds(rows[0] == wanted, f"after {typed} the first row is {wanted}: {rows[0]}")
+    terminal.type(b"\x1b[5;2~")
+    terminal.read(1.0)
+    rows = shown_rows(vt, terminal)
+    wanted = [f"row {n}" for n in range(26, 38)]
+    bench.holds(rows[:12] == wanted, f"above the screen are the rows that fell out: {rows}")
+    terminal.type(b"\r")
+    bench.holds(terminal.wait_for(b"last"), "a key shows the screen again")
+    terminal.type(b"\r")
+    bench.holds(terminal.end() == 0, f"the terminal ends with the command: {terminal.status}")
+
+
 def check_asked_consoles(bench, vt, program):
     """A text may ask for a console (ESC [ 12 ; N ]); the terminal ends with its last console."""
     terminal = Terminal([program, "--status", "sh", "-c", "printf '\\033[12;3]'; exit 4"])
@@ -242,5 +269,6 @@ def check_terminal(bench, vt):
         check_picture(bench, program)
         check_hands(bench, program)
         check_consoles(bench, vt, program)
+        check_scrollback(bench, vt, program)
         check_asked_consoles(bench, vt, program)
         check_ends(bench, program)

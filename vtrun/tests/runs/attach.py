@@ -7,7 +7,7 @@ import struct
 import termios
 import time
 
-SECONDS = 5
+SECONDS = 100
 got = b""
 pid, terminal = pty.fork()
 if pid == 0:

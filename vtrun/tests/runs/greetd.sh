@@ -1,13 +1,15 @@
 # greetd switches to its console, and starts a session there.
+. "${0%/*}/waiting.sh"
 greetd -c "$1" > /dev/null 2>&1 & daemon=$!
-vtrun wait text 2 'login:' 8
+vtrun wait text 2 'login:' 100
 fgconsole
+await listens agreety
 vtrun type 'root<Enter>'
-vtrun wait text 2 assword: 5
-sleep 0.4   # (what is typed before it listens is dropped)
+vtrun wait text 2 assword: 100
+await listens agreety   # (what is typed before is dropped)
 vtrun type 'secret<Enter>'
-vtrun wait text 2 '#' 8
+vtrun wait text 2 '#' 100
 vtrun type 'echo at=$(tty)<Enter>'
-vtrun wait text 2 at=/dev 5
+vtrun wait text 2 at=/dev 100
 vtrun snap 2
 kill $daemon

@@ -18,6 +18,15 @@ def connected():
 ASK
 
 
+def has_room():
+    """Whether eight more connections are served: those that were closed don't count any more."""
+    streams = [connected().makefile("rwb") for _ in range(8)]
+    try:
+        return all(ask(stream, "hello") for stream in streams)
+    except (OSError, ValueError):
+        return False
+
+
 def asked(stream, line, body=b""):
     """The answer to a request, or its refusal."""
     try:
@@ -40,14 +49,16 @@ seen["front after"] = asked(stream, "front")
 seen["wait text"] = asked(stream, "wait text 1 5 3", b"abc")
 words = b"sh\0-c\0echo abc; exit 5\0"
 seen["run"] = asked(stream, f"run 1 {len(words)}", words)
-seen["wait text 2"] = asked(stream, "wait text 1 5000 3", b"abc")
-seen["program"] = asked(stream, "wait program 1 5000")
+seen["wait text 2"] = asked(stream, "wait text 1 100000 3", b"abc")
+seen["program"] = asked(stream, "wait program 1 100000")
 seen["run bad"] = asked(stream, "run 1 3", b"abc")
 seen["svg"] = asked(stream, "svg 1")[1][:4]
 seen["redraw"] = "abc" in asked(stream, "redraw 1")[1]
 many = [connected() for _ in range(70)]
-time.sleep(0.3)
 del many
+end = time.monotonic() + 100
+while not has_room() and time.monotonic() < end:
+    time.sleep(0.1)
 half = connected()
 half.sendall(b"type 100\nabc")
 deaf = connected()
@@ -62,14 +73,12 @@ long.sendall(b"x" * 10000)
 big = connected()
 big.sendall(b"type 99999999\n")
 seen["big"] = big.recv(100).decode().split("\n")[0]
-time.sleep(0.3)
 stream = connected().makefile("rwb")
 seen["still"] = asked(stream, "front")
 screen = connected()
 screen.sendall(b"attach 25 80\n")
-time.sleep(0.3)
 drawn = screen.recv(65536)
 seen["attached"] = drawn.startswith(b"ok 0\n")
 screen.sendall(b"\x1b[1;3P")
-seen["attached switch"] = asked(stream, "wait front 1 2000")
+seen["attached switch"] = asked(stream, "wait front 1 100000")
 print(json.dumps(seen))

@@ -1,13 +1,14 @@
 # Characters and names of keys, as a program gets them; and a key after another keymap was loaded.
-vtrun run 2 -- sh -c 'stty raw -echo; cat -v > $T/typed' &
-sleep 0.4
+. "${0%/*}/waiting.sh"
+vtrun run 2 -- sh -c 'stty raw -echo; > "$T/typed"; exec cat -v > "$T/typed"' &
+await test -e "$T/typed"
 vtrun type '<A-F2>'
 vtrun type 'aZ09 !~{|\<lt>"'
-vtrun type '<Enter><Tab><Esc><Up><F1><F12><S-F1><PageDown><Delete><C-a><M-x><A-y><C-[>'
-sleep 0.3
+vtrun type '<Enter><Tab><Esc><Up><F1><F12><S-F1><PageDown><Delete><C-a><M-x><A-y><C-[>#'
+await ends_with "$T/typed" '#'
 cat "$T/typed"
 echo
 printf 'keycode 30 = q\n' | loadkeys -
 vtrun type q
-sleep 0.2
+await ends_with "$T/typed" q
 tail -c 1 "$T/typed"

@@ -1,10 +1,11 @@
 # A program that is killed while it waits for a console leaves nothing behind.
+. "${0%/*}/waiting.sh"
 "$T/server" 2 hang quiet & server=$!
-vtrun wait owner 2
+vtrun wait owner 2 100
 chvt 2
 for i in 1 2 3; do
     chvt 1 & waiter=$!
-    sleep 0.2
+    await waits $i
     kill -9 $waiter
     wait $waiter
     echo $?
@@ -12,8 +13,7 @@ done 2> /dev/null
 fgconsole
 kill -9 $server
 wait $server 2> /dev/null
-sleep 0.2
 fgconsole
-timeout 3 chvt 2
+timeout 100 chvt 2
 echo $?
 fgconsole

@@ -9,7 +9,7 @@ status vtrun wait front 1 0
 status vtrun wait owner 1 0.1
 status vtrun wait text 1 nothing 0.1
 status vtrun type '<A-F2>'
-status vtrun wait front 2 1
+status vtrun wait front 2 100
 status vtrun type '<Nokey>'
 status vtrun snap 9
 status vtrun snap 2 --svg

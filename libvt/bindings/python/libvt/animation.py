@@ -1,12 +1,14 @@
 #!/usr/bin/env python3
 """Draws an asciinema recording as one moving picture in SVG, without a script, or one moment of it as a still picture.
 
-usage: python3 -m libvt.animation [--at S | --pause S --rate N] [--size R C] [--out FILE] FILE.cast
+usage: python3 -m libvt.animation [--at S | --pause S --rate N --still S] [--size R C] [--out FILE] FILE.cast
 
 The cells of each frame are those of the library's picture (Screen.picture). Each row is a strip of all its states, one
 below the other, of which one is seen at a time; keyframes of CSS move the strips. Between two states is an empty row,
-since letters may be higher than a row. Output that is less than 1/N seconds apart (20) is one frame. A pause is at most
-S seconds long (2), and so is the one at the end. A viewer that reduces motion shows the last frame.
+since letters may be higher than a row. The background of a row reaches one pixel below it, under the next row, so no
+line is seen between two rows at any scale. Output that is less than 1/N seconds apart (20) is one frame. A pause is at
+most S seconds long (2), and so is the one at the end. A viewer that reduces motion, or moves nothing, shows the last
+frame; with --still S it shows the one of S seconds after the start of the picture.
 
 --at S prints the still picture of the screen S seconds after the start of the recording. --size has the rows and
 columns of a recording that doesn't have them. Statuses: 0 the picture was written; 1 the words or the recording aren't
@@ -15,6 +17,7 @@ of the form, or a file can't be read or written.
 from __future__ import annotations
 
 import argparse
+import math
 import re
 import sys
 from typing import Iterator, NamedTuple, NoReturn
@@ -28,6 +31,7 @@ from .terminal import Event
 
 PROGRAM = "animation.py"
 CELL = 8
+OVERLAP = 1
 # An element of a picture, with its place.
 ELEMENT = re.compile(r"<(rect|text) x='([0-9]+)' y='([0-9]+)'(?: width='[0-9]+' height='([0-9]+)' fill='([^']+)')?")
 STILL = "@media(prefers-reduced-motion:reduce){g{animation:none!important}}"
@@ -59,6 +63,11 @@ def moved(line: str, pixels: int) -> str:
     return re.sub(r" y='([0-9]+)'", lambda match: f" y='{int(match[1]) + pixels}'", line, count=1)
 
 
+def deepened(line: str, height: int) -> str:
+    """An element of a row; a background reaches below the row."""
+    return re.sub(rf"^(<rect [^>]* height=)'{height}'", rf"\1'{height + OVERLAP}'", line)
+
+
 def frame_of(moment: float, picture: str, size: tuple[int, int]) -> Frame:
     """A frame, from the picture of a screen."""
     found = re.search(r" height='([0-9]+)'>\n", picture)
@@ -73,7 +82,7 @@ def frame_of(moment: float, picture: str, size: tuple[int, int]) -> Frame:
         if element[1] == "rect" and int(element[4] or height) < height:
             cursor = Cursor(x, row * height, element[5])
         else:
-            rows[row] += moved(line, -row * height) + "\n"
+            rows[row] += deepened(moved(line, -row * height), height) + "\n"
     style = re.search(r"<style>(.*)</style>", picture)
     return Frame(moment, size, height, rows, cursor, picture.partition("\n")[0], style[1] if style else "")
 
@@ -141,7 +150,7 @@ def steps_of(values: list[tuple[float, str]]) -> list[tuple[float, str]]:
     return [step for i, step in enumerate(values) if not i or step[1] != values[i - 1][1]]
 
 
-def strip(row: int, frames: list[Frame], whole: float) -> tuple[str, str]:
+def strip(row: int, frames: list[Frame], whole: float, still: int) -> tuple[str, str]:
     """A row of the moving picture: its style and its elements."""
     height = frames[0].height
     numbers: dict[str, int] = {}
@@ -155,7 +164,8 @@ def strip(row: int, frames: list[Frame], whole: float) -> tuple[str, str]:
     width = CELL * max(frame.size[1] for frame in frames)
     if len(numbers) == 1:
         return "", f"<g transform='translate(0 {height * row})'>\n{elements}</g>\n"
-    head = f"<svg y='{height * row}' width='{width}' height='{height}'><g id='r{row}' style='{shifts[-1][1]}'>"
+    size = f"width='{width}' height='{height + OVERLAP}'"
+    head = f"<svg y='{height * row}' {size}><g id='r{row}' style='{shifts[still][1]}'>"
     return keyframes(f"r{row}", steps_of(shifts), whole), f"{head}\n{elements}</g></svg>\n"
 
 
@@ -167,14 +177,15 @@ def cursor_rule(frame: Frame) -> str:
     return f"fill:{fill};transform:translate({x}px,{y}px);visibility:visible"
 
 
-def animation(frames: list[Frame], pause: float) -> str:
-    """The moving picture of frames."""
+def animation(frames: list[Frame], pause: float, still: float) -> str:
+    """The moving picture of frames, and the still one of a moment for viewers that move nothing."""
     rows, columns = (max(frame.size[side] for frame in frames) for side in (0, 1))
     height, whole = frames[0].height, frames[-1].moment + pause
-    strips = [strip(row, frames, whole) for row in range(rows)]
+    shown = max(number for number, frame in enumerate(frames) if not number or frame.moment <= still)
+    strips = [strip(row, frames, whole, shown) for row in range(rows)]
     rules = [(frame.moment, cursor_rule(frame)) for frame in frames]
     styles = "".join(style for style, _ in strips) + keyframes("c", steps_of(rules), whole)
-    cursor = f"<g id='c' style='{rules[-1][1]}'><rect y='{height - 2}' width='{CELL}' height='2'/></g>\n"
+    cursor = f"<g id='c' style='{rules[shown][1]}'><rect y='{height - 2}' width='{CELL}' height='2'/></g>\n"
     head = re.sub(r" width='.*", f" width='{CELL * columns}' height='{height * rows}'>", frames[0].head)
     drawn = "".join(elements for _, elements in strips)
     return (
@@ -193,7 +204,7 @@ class Words(argparse.ArgumentParser):
 def run(words: list[str]) -> int:
     """Draws a recording."""
     form = Words(prog=PROGRAM, description=__doc__, formatter_class=argparse.RawDescriptionHelpFormatter)
-    for name, default in (("--at", None), ("--pause", "2"), ("--rate", "20")):
+    for name, default in (("--at", None), ("--pause", "2"), ("--rate", "20"), ("--still", None)):
         form.add_argument(name, metavar="S", default=default)
     form.add_argument("--size", nargs=2, metavar=("R", "C"))
     form.add_argument("--out", metavar="FILE")
@@ -207,8 +218,11 @@ def run(words: list[str]) -> int:
             cast = cast._replace(rows=rows, columns=columns)
         if not cast.rows:
             raise Stop(1, f"{given.file}: the recording has no rows and columns from 1 to 255; --size R C has them")
-        drawn = animation(frames_of(cast, rate, pause), max(pause, 0.1)) if given.at is None else still(
-            cast, seconds(given.at))
+        if given.at is None:
+            shown = math.inf if given.still is None else seconds(given.still)
+            drawn = animation(frames_of(cast, rate, pause), max(pause, 0.1), shown)
+        else:
+            drawn = still(cast, seconds(given.at))
     except BadCast as fault:
         raise Stop(1, f"{given.file}:{fault.line}: {fault}") from None
     except (ValueError, OutOfRange) as fault:

@@ -26,6 +26,7 @@ FILE = "libvt.so.1"
 OUTS = 64
 PIECE = 4096
 ROW = 255
+FALLEN = 16
 COLOURS = 16
 PAIRS = 256
 KEYMODES = RAW, XLATE, MEDIUMRAW, UNICODE, OFF = range(5)
@@ -219,7 +220,8 @@ class _Out(ctypes.Structure):
 
 
 class _Fed(ctypes.Structure):
-    _fields_ = [("taken", ctypes.c_size_t), ("outs", ctypes.c_size_t), ("spare", ctypes.c_size_t * 2)]
+    _fields_ = [
+        *((name, ctypes.c_size_t) for name in ("taken", "outs", "rows")), ("spare", ctypes.c_size_t * 1)]
 
 
 class _Cell(ctypes.Structure):
@@ -317,6 +319,7 @@ _room, _byte = _to(ctypes.c_uint8), ctypes.c_uint8
 _CALLS = {
     "vt_screen_new": (_number, _number),
     "vt_screen_feed": (_bytes, _size, _to(_Out), _size, _to(_Fed)),
+    "vt_screen_feed_rows": (_bytes, _size, _to(_Out), _size, _to(_Cell), _size, _to(_Fed)),
     "vt_screen_write": (_bytes, _size),
     "vt_screen_state": (_to(_State),),
     "vt_screen_cell": (_number, _number, _to(_Cell)),
@@ -357,7 +360,12 @@ _CALLS = {
     "vt_machine_display": (_to(_Display),),
     "vt_machine_console": (_number, _to(_Console)),
     "vt_machine_row": (_number, _number, _to(_Cell), _size),
+    "vt_machine_cells": (_number, _to(_Cell), _size),
     "vt_machine_redraw": (_number, _room, _size, _to(_size)),
+    "vt_machine_redraw_changes": (_number, _to(_Cell), _size, _number, _room, _size, _to(_size)),
+    "vt_machine_redraw_near": (_number, _room, _size, _to(_size)),
+    "vt_machine_redraw_changes_near": (_number, _to(_Cell), _size, _number, _room, _size, _to(_size)),
+    "vt_machine_picture": (_number, _room, _size, _to(_size)),
     "vt_machine_entry": (_number, _room, _size, _to(_size)),
     "vt_machine_journal": (_room, _size, _to(_size)),
 }
@@ -488,6 +496,25 @@ class Screen(_Object):
                         break
                     piece = piece[self._fed.taken:]
         return events
+
+    def feed_rows(self, text: Bytes) -> tuple[list[Event], list[list[Cell]]]:
+        """Draws the bytes as feed does. Returns what they ask for, and the cells of each row that fell out at the top,
+        from its left, in order: a line feed in the last row moves a row out. What is deleted or erased, and what
+        resize loses, isn't among them."""
+        left = bytes(text)
+        events: list[Event] = []
+        rows: list[list[Cell]] = []
+        with self._lock:
+            cols = self.size[1]
+            cells = (_Cell * (FALLEN * cols))()
+            while left:
+                piece = left[:PIECE]
+                self._call("feed_rows", piece, len(piece), self._outs, OUTS, cells, len(cells), self._fed)
+                events += map(_event, self._outs[:self._fed.outs])
+                fallen = _cells(cells, self._fed.rows * cols)
+                rows += (fallen[at:at + cols] for at in range(0, len(fallen), cols))
+                left = left[self._fed.taken:]
+        return events, rows
 
     def write(self, text: Bytes) -> None:
         """Draws the bytes, and drops what they ask for."""

@@ -20,7 +20,7 @@ from __future__ import annotations
 import ctypes
 import enum
 from dataclasses import dataclass
-from typing import Callable, Iterable, Union
+from typing import Callable, Iterable, Sequence, Union
 
 from . import calls
 from .calls import Bytes, Cell, Cursor, KeymapFault, OutOfRange
@@ -287,10 +287,49 @@ class Machine(calls._Object):
             count = self.console(console).rows
             return ["".join(cell.character for cell in self.cells(console, row)) for row in range(count)]
 
+    def all_cells(self, console: int) -> list[list[Cell]]:
+        """All cells of a console, row by row from the top."""
+        with self._lock:
+            found, what = self.console(console), f"console {console}"
+            cells = (calls._Cell * (found.rows * found.cols))()
+            self._call("cells", calls._unsigned(console, what), cells, len(cells), what=what)
+        every = calls._cells(cells, len(cells))
+        return [every[at : at + found.cols] for at in range(0, len(every), found.cols)]
+
     def redraw(self, console: int) -> bytes:
         """The text that draws a console's screen on a terminal of its size. NotDrawable, if there is none."""
         what = f"console {console}"
         return self._text("redraw", calls._unsigned(console, what), room=4096, what=what)
+
+    def redraw_changes(self, console: int, shown: Sequence[Sequence[Cell]]) -> bytes:
+        """The same for a terminal that shows these cells, row by row as all_cells gives them: only rows that differ are
+        in the text. OutOfRange, if the terminal hasn't the console's size."""
+        return self._changes("redraw_changes", console, shown)
+
+    def redraw_near(self, console: int) -> bytes:
+        """The text of redraw for the nearest screen that a text draws."""
+        what = f"console {console}"
+        return self._text("redraw_near", calls._unsigned(console, what), room=4096, what=what)
+
+    def redraw_changes_near(self, console: int, shown: Sequence[Sequence[Cell]]) -> bytes:
+        """The text of redraw_changes for that screen."""
+        return self._changes("redraw_changes_near", console, shown)
+
+    def _changes(self, name: str, console: int, shown: Sequence[Sequence[Cell]]) -> bytes:
+        cols = len(shown[0]) if shown else 0
+        what = f"console {console}, {len(shown)} rows of {cols} columns"
+        if not all(len(row) == cols for row in shown):
+            raise OutOfRange(f"console {console}, rows of unequal lengths")
+        given = [calls._Cell(cell.code, cell.attribute) for row in shown for cell in row]
+        cells = (calls._Cell * max(1, len(given)))(*given)
+        words = calls._unsigned(console, what), cells, len(given), calls._unsigned(cols, what)
+        return self._text(name, *words, room=4096, what=what)
+
+    def picture(self, console: int) -> str:
+        """A console as a picture in SVG."""
+        what = f"console {console}"
+        text = self._text("picture", calls._unsigned(console, what), room=16384, what=what)
+        return text.decode("utf-8", "surrogatepass")
 
     def entry(self, index: int) -> str:
         """The line of an entry of the journal, counted from 0, without its line feed."""

@@ -47,6 +47,24 @@ class Screens(unittest.TestCase):
         self.assertEqual(screen.cell(0, 2).character, "")
         self.assertEqual([cell.character for cell in screen.cells(0)], ["a", "中", "", " ", " ", " "])
 
+    def test_rows_that_fall_out(self):
+        screen = libvt.Screen(2, 3)
+        events, rows = screen.feed_rows(b"ab\a\r\nc\x1b[7md\r\nefgh")
+        self.assertEqual(events, [libvt.Bell()])
+        self.assertEqual(["".join(cell.character for cell in row) for row in rows], ["ab ", "cd "])
+        self.assertEqual([cell.attribute for cell in rows[1]], [0x07, 0x70, 0x07])
+        self.assertEqual(screen.rows(), ["efg", "h  "])
+        # Two rows by one byte: U+FFFD goes to the next row, and then the line feed acts.
+        screen = libvt.Screen(2, 3)
+        screen.write(b"\x1b[2;1Habc\xe4")
+        events, rows = screen.feed_rows(b"\n")
+        self.assertEqual(["".join(cell.character for cell in row) for row in rows], ["   ", "abc"])
+        # What is deleted, erased or in a region below the first row doesn't fall out.
+        screen = libvt.Screen(3, 3)
+        self.assertEqual(screen.feed_rows(b"\x1b[M\x1b[2J\x1b[2;3r\x1b[3;1H\n\n\x1b[1;1H\x1bM"), ([], []))
+        self.assertEqual(len(screen.feed_rows(b"\x1b[r\x1b[3;1H" + b"\n" * 1000)[1]), 1000)
+        self.assertEqual(screen.feed_rows(b""), ([], []))
+
     def test_events(self):
         asking = b"\a\x1b[6n\x1b[c\x1b[2q\x1b[12;7]\x1b[15]"
         reports = [libvt.Report(b"\x1b[1;1R"), libvt.Report(b"\x1b[?6c")]

@@ -1,5 +1,6 @@
 #!/usr/bin/env python3
 """Tests of Consoles: what it waits for, what its failures contain, and that no process is left. They need vtrun."""
+import functools
 import os
 import pathlib
 import shutil
@@ -14,13 +15,17 @@ from unittest import mock
 FOLDER = pathlib.Path(__file__).resolve().parent.parent
 sys.path.insert(0, str(FOLDER))
 
-from libvt import Consoles, Failed, Unavailable  # noqa: E402: after its folder
+import libvt  # noqa: E402: after its folder
+from libvt import Failed, Unavailable  # noqa: E402
 from libvt.waiting import Watch  # noqa: E402
 
+# Of what has to come, in seconds: it takes so long only if something is wrong.
+LIMIT = 100
+Consoles = functools.partial(libvt.Consoles, timeout=LIMIT)
 STARTS = """
 import sys
 from libvt import Consoles
-it = Consoles([1, 2], 3, 20)
+it = Consoles([1, 2], 3, 20, timeout=100)
 it.run("sleep 300", 2)
 print(it._vtrun.watch.mark.decode().strip(chr(0)), it._vtrun.folder, flush=True)
 sys.stdin.read()
@@ -41,7 +46,7 @@ def with_mark(mark):
 
 class Programs(unittest.TestCase):
     def setUp(self):
-        self.machine = Consoles([2, 3], 6, 40, env={"PS1": "$ ", "GONE": "here"}, timeout=30)
+        self.machine = Consoles([2, 3], 6, 40, env={"PS1": "$ ", "GONE": "here"})
         self.addCleanup(self.machine.close)
 
     def fails(self, text, call, *arguments):
@@ -144,9 +149,9 @@ class Journals(unittest.TestCase):
             it.type("<A-F2>")
             self.assertEqual((it.front, it.session), (2, ""))
         given = (it.session + it.journal).encode()
-        said = subprocess.run([vt, "check"], input=given, capture_output=True, timeout=60, check=False)
+        said = subprocess.run([vt, "check"], input=given, capture_output=True, timeout=LIMIT, check=False)
         self.assertEqual((said.returncode, said.stdout[:6]), (0, b"legal "), said)
-        said = subprocess.run([vt, "explain"], input=given, capture_output=True, timeout=60, check=False).stdout
+        said = subprocess.run([vt, "explain"], input=given, capture_output=True, timeout=LIMIT, check=False).stdout
         self.assertRegex(said, rb"(?m)^\S+ \S+ 1 2 free")
 
 
@@ -172,7 +177,7 @@ class Ends(unittest.TestCase):
             self.assertGreaterEqual(len(with_mark(mark)), 3)
             self.assertTrue(os.path.exists(folder))
             python.kill()
-        until = time.monotonic() + 30
+        until = time.monotonic() + LIMIT
         while with_mark(mark) and time.monotonic() < until:
             time.sleep(0.02)
         self.assertEqual(with_mark(mark), [])
@@ -184,7 +189,7 @@ class Ends(unittest.TestCase):
         it.settle()
         mark = it._vtrun.watch.mark.decode().strip("\0")
         it._vtrun._process.kill()
-        it._vtrun._process.wait(5)
+        it._vtrun._process.wait(LIMIT)
         for call in (lambda: it.front, lambda: it.type("x"), program.wait_exit, lambda: it.wait_text("x", 2, 1)):
             with self.assertRaisesRegex(Failed, "vtrun"):
                 call()

@@ -21,6 +21,7 @@ SIZE 6 30
 COPY data
 ENV GREETING "hi \"there\""
 RUN sh -c 'cat data; echo $GREETING; read x; printf "\033[7mgot %s\033[m\a" "$x"; sleep 0.2; echo; echo later; exit 7'
+WAIT "there" 100
 ?row 0 = "one"
 ?row 1 ~ "^hi .there.$"
 ?chars 0,0,2,2 = "on\nhi"
@@ -33,7 +34,7 @@ RUN sh -c 'cat data; echo $GREETING; read x; printf "\033[7mgot %s\033[m\a" "$x"
 ~ th.re
 ..
 KEYS "a<lt>b<Backspace><Enter>"
-WAIT "later" 5
+WAIT "later" 100
 ?attr 3,0-5 = black white
 ?attr 3,0-5 = white black reverse
 ?bells = 1
@@ -70,7 +71,7 @@ def run(module, *words, folder, **environment):
     """Runs a module of the package."""
     given = {**os.environ, "PYTHONPATH": str(FOLDER), "PYTHONDONTWRITEBYTECODE": "1", "CI": "", **environment}
     words = [sys.executable, "-m", f"libvt.{module}", *map(str, words)]
-    return subprocess.run(words, cwd=folder, env=given, capture_output=True, text=True, timeout=60, check=False)
+    return subprocess.run(words, cwd=folder, env=given, capture_output=True, text=True, timeout=400, check=False)
 
 
 class Expect(unittest.TestCase):
@@ -83,6 +84,7 @@ class Expect(unittest.TestCase):
     def expect(self, text, *words, **environment):
         """Plays a text as a file; gives the status and what is printed."""
         (self.folder / "a.test").write_text(text, encoding="utf-8")
+        words = words if "--limit" in words else ("--limit", "100", *words)
         ran = run("expect", *words, "a.test", folder=self.folder, **environment)
         return ran.returncode, ran.stdout + ran.stderr
 
@@ -100,9 +102,9 @@ class Expect(unittest.TestCase):
         self.assertIn("#     0 |one  ", out)
 
     def test_a_wait_that_never_ends(self):
-        status, out = self.expect(LIVE.replace('"later" 5', '"latter" 0.3'))
+        status, out = self.expect(LIVE.replace('"later" 100', '"latter" 0.3'))
         self.assertEqual((status, out.count("not ok ")), (1, 4), out)
-        self.assertRegex(out, r'not reached: a.test:18: WAIT: "latter" wasn\'t shown (within|before)')
+        self.assertRegex(out, r'not reached: a.test:19: WAIT: "latter" wasn\'t shown (within|before)')
         self.assertEqual(out.count("  0 |one"), 1)
         status, out = self.expect("RUN nosuchprogram\n?bells = 0\n")
         self.assertEqual((status, "nosuchprogram: no such program" in out), (1, True), out)
@@ -128,7 +130,7 @@ class Expect(unittest.TestCase):
         self.assertEqual(ran.returncode, 0, ran.stdout + ran.stderr)
 
     def test_accept_cuts_spans_and_leaves_patterns(self):
-        text = "SIZE 2 9\nRUN sh -c 'printf \"ab\\033[1mcd\"; read x'\n"
+        text = "SIZE 2 9\nRUN sh -c 'printf \"ab\\033[1mcd\"; read x'\nWAIT \"cd\" 100\n"
         text += "?attr 0,0-4 = ?\n?row 0 ~ \"nowhere\"\n?bells = 0\n"
         status, out = self.expect(text, "--accept", "--limit", "2")
         self.assertEqual((status, out.count("not ok "), out.count("accept   leaves this line")), (1, 2, 1), out)
@@ -183,13 +185,20 @@ class Casts(unittest.TestCase):
         self.assertIn("@keyframes r0{0%{transform:translateY(0px)}60%{transform:translateY(-30px)}}", ran.stdout)
         self.assertIn("@keyframes r1{0%{transform:translateY(0px)}20%{transform:translateY(-30px)}}", ran.stdout)
         self.assertNotIn("@keyframes r2", ran.stdout)
+        self.assertIn("<g id='r0' style='transform:translateY(-30px)'>", ran.stdout)
+        # Each background covers one pixel below its row, so that no line is seen between rows in a larger picture.
+        self.assertEqual(set(re.findall(r"<rect x=.* height='(\d+)' fill", ran.stdout)), {"16"})
+        ran = run("animation", "--still", "1", "a.cast", folder=self.folder)
+        self.assertIn("<g id='r0' style='transform:translateY(0px)'>", ran.stdout)
+        self.assertIn("<g id='r1' style='transform:translateY(-30px)'>", ran.stdout)
         ran = run("animation", "--at", "5", "a.cast", folder=self.folder)
         with Screen(3, 9) as screen:
             screen.write(b"one\r\n\x1b[31mtwo")
             self.assertEqual(ran.stdout, screen.picture())
         (self.folder / "b.cast").write_text("{", encoding="utf-8")
         for words, wanted in (
-            (["--at", "x", "a.cast"], "wanted seconds"), (["--size", "0", "1", "a.cast"], "wanted rows"),
+            (["--at", "x", "a.cast"], "wanted seconds"), (["--still", "", "a.cast"], "wanted seconds"),
+            (["--size", "0", "1", "a.cast"], "wanted rows"),
             (["b.cast"], "b.cast:1: wanted JSON"), (["c.cast"], "c.cast: No such file"),
         ):  # fmt: skip
             ran = run("animation", *words, folder=self.folder)

@@ -68,6 +68,35 @@ class Machines(unittest.TestCase):
         with self.assertRaises(libvt.NotDrawable):
             machine.redraw(1)
 
+    def test_changes(self):
+        machine, screen = made(), libvt.Screen(3, 10)
+        machine.call(1, "open", 1)
+        machine.call(1, "write", 0, held="one\r\n\x1b[32mgrü中".encode())
+        shown = machine.all_cells(1)
+        self.assertEqual(shown, [machine.cells(1, row) for row in range(3)])
+        screen.write(machine.redraw(1))
+        machine.call(1, "write", 0, held=b"\x1b[3;4Hthree")
+        changes = machine.redraw_changes(1, shown)
+        self.assertNotIn(b"one", changes)
+        self.assertEqual(machine.redraw_changes_near(1, shown), changes)
+        screen.write(changes)
+        self.assertEqual([screen.cells(row) for row in range(3)], machine.all_cells(1))
+        self.assertEqual(screen.picture(), machine.picture(1))
+        for other in (shown[:2], [], [row[:9] for row in shown], [shown[0], shown[1], shown[2][:9]]):
+            with self.assertRaises(libvt.OutOfRange):
+                machine.redraw_changes(1, other)
+        for call in (machine.all_cells, machine.picture, machine.redraw_near):
+            with self.assertRaises(libvt.OutOfRange):
+                call(3)
+        machine.call(1, "write", 0, held=b"\x1b[H\x1b%@\x1b[3h\x01")
+        with self.assertRaises(libvt.NotDrawable):
+            machine.redraw_changes(1, shown)
+        screen.write(machine.redraw_near(1))
+        self.assertEqual(screen.cell(0, 0).code, 0xFFFD)
+        near = [screen.cells(row) for row in range(3)]
+        screen.write(machine.redraw_changes_near(1, near))
+        self.assertEqual([screen.cells(row) for row in range(3)], near)
+
     def test_waits(self):
         machine = made()
         machine.call(1, "open", 1)

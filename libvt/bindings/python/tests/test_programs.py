@@ -77,7 +77,7 @@ def test_mc_copies(terminal, tmp_path):
     (tmp_path / "work").mkdir()
     (tmp_path / "work/notes").write_text("x" * 1234)
     (tmp_path / "work/other").mkdir()
-    mc = terminal("mc --nosubshell -c . other", cwd=tmp_path / "work", timeout=20)
+    mc = terminal("mc --nosubshell -c . other", cwd=tmp_path / "work", timeout=100)
     place = mc.wait_for("notes")
     assert mc.screen.cell(*place[:2]).words == "white blue"
     assert re.search(r"notes +│ +1234│", mc.screen.rows[place.row])
@@ -95,7 +95,7 @@ def test_mc_copies(terminal, tmp_path):
 @pytest.mark.vt_needs("mc")
 def test_mc_screen(terminal, tmp_path):
     (tmp_path / "empty").mkdir()
-    mc = terminal("mc --nosubshell -c empty empty", rows=14, cols=60, timeout=20)
+    mc = terminal("mc --nosubshell -c empty empty", rows=14, cols=60, timeout=100)
     mc.wait_for("8De~te")
     free_space = r"└─+ [\d.]+[KMGT] / [\d.]+[KMGT] \(\d+%\) ─┘"
     masks = [r"\w +\d+ \d\d:\d\d", free_space, (11, 0, 1, 60), r"^[#$]"]
@@ -175,7 +175,7 @@ def test_tig_shows_a_commit(terminal, tmp_path):
 @pytest.mark.vt_needs("tmux")
 def test_tmux_splits(terminal, tmp_path):
     words = ["tmux", "-S", tmp_path / "socket", "-f", "/dev/null", "new", "PS1='$ ' sh"]
-    tmux = terminal(words, rows=12, cols=60, timeout=20)
+    tmux = terminal(words, rows=12, cols=60, timeout=100)
     tmux.wait_for(re.compile(r"^\$", re.M))
     tmux.type("<C-b>%")
     tmux.wait_for(lambda screen: all(row[30:31] == "│" for row in screen.rows[:11]))

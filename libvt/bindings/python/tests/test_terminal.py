@@ -1,5 +1,6 @@
 #!/usr/bin/env python3
 """Tests of Terminal: what it waits for, what its failures contain, and that no process is left."""
+import functools
 import os
 import pathlib
 import re
@@ -9,14 +10,19 @@ import sys
 import tempfile
 import time
 import unittest
+from unittest import mock
 
 FOLDER = pathlib.Path(__file__).resolve().parent.parent
 sys.path.insert(0, str(FOLDER))
 
-from libvt import Failed, Terminal  # noqa: E402: after its folder
+import libvt  # noqa: E402: after its folder
+from libvt import Failed  # noqa: E402
 from libvt.keys import pieces_of  # noqa: E402
 from libvt.waiting import Watch  # noqa: E402
 
+# Of what has to come, in seconds: it takes so long only if something is wrong.
+LIMIT = 100
+Terminal = functools.partial(libvt.Terminal, timeout=LIMIT)
 COUNTS = "import itertools, time\nfor n in itertools.count():\n  print(end=f'\\r{n}', flush=True); time.sleep(0.02)"
 STARTS = """
 import os, sys
@@ -30,10 +36,10 @@ import signal
 for number in (signal.SIGINT, signal.SIGQUIT, signal.SIGHUP):
     signal.signal(number, signal.SIG_IGN)
 from libvt import Terminal
-with Terminal(["sleep", "300"], 2, 20) as it:
+with Terminal(["sleep", "300"], 2, 20, timeout=100) as it:
     it.type("<C-c>")
     print(it.wait_exit())
-with Terminal(["sh", "-c", "trap 'echo hung up' HUP; echo ready; read x"], 3, 20) as it:
+with Terminal(["sh", "-c", "trap 'echo hung up' HUP; echo ready; read x"], 3, 20, timeout=100) as it:
     it.wait_for("ready")
     it.kill(signal.SIGHUP)
     it.wait_for("hung up")
@@ -70,7 +76,7 @@ class Waiting(unittest.TestCase):
             began = time.monotonic()
             wanted = '"Save modified buffer?" wasn\'t shown within 0.4 s; row 0 has "Save modified buf"'
             text = self.fails(wanted, it.wait_for, "Save modified buffer?", 0.4)
-            self.assertTrue(0.4 <= time.monotonic() - began < 5)
+            self.assertTrue(0.4 <= time.monotonic() - began < LIMIT)
             self.assertIn("  0 |Save modified bufer?                    |", text)
             self.assertIn("cursor 0,20", text)
 
@@ -88,33 +94,34 @@ class Waiting(unittest.TestCase):
             self.fails("returned None", it.wait_for, lambda screen: None, 0.1)
 
     def test_a_moment_is_not_enough(self):
-        with shell("printf flash; sleep 0.1; printf '\\rother'; read x") as it:
-            self.fails("wasn't shown within 1 s", it.wait_for, "flash", 1)
+        script = "printf flash; sleep 0.1; printf '\\rother'; read x"
+        with shell(script) as it, mock.patch("libvt.terminal.PATIENCE", LIMIT):
+            self.fails("wasn't shown within 3 s", it.wait_for, "flash", 3)
 
     def test_an_end_ends_a_wait(self):
         began = time.monotonic()
         with shell("echo gone; exit 3") as it:
-            self.fails("before the program ended with status 3", it.wait_for, "never", 20)
+            self.fails("before the program ended with status 3", it.wait_for, "never", 2 * LIMIT)
             self.assertEqual((it.wait_exit(), it.screen.rows[0]), (3, "gone"))
             self.fails("ended before it was given all input", it.type, "x")
-        self.assertLess(time.monotonic() - began, 12)
+        self.assertLess(time.monotonic() - began, LIMIT)
 
     def test_signals_and_statuses(self):
         with Terminal(["sleep", "100"], 2, 20) as it:
             self.fails("didn't end within 0.2 s", it.wait_exit, 0.2)
             it.kill()
-            self.assertEqual(it.wait_exit(2), -signal.SIGTERM)
+            self.assertEqual(it.wait_exit(), -signal.SIGTERM)
 
     def test_signals_are_not_ignored(self):
         environment = {**os.environ, "PYTHONPATH": str(FOLDER), "PYTHONDONTWRITEBYTECODE": "1"}
         words = [sys.executable, "-c", IGNORES]
-        ran = subprocess.run(words, env=environment, capture_output=True, text=True, timeout=60, check=False)
+        ran = subprocess.run(words, env=environment, capture_output=True, text=True, timeout=3 * LIMIT, check=False)
         self.assertEqual((ran.returncode, ran.stdout), (0, f"{-signal.SIGINT}\n"), ran.stderr)
 
     def test_programs_that_never_rest(self):
         with Terminal([sys.executable, "-S", "-E", "-c", COUNTS], 2, 20, timeout=1) as it:
             self.fails("didn't come to rest within 1 s", lambda: it.screen)
-            self.assertTrue(it.wait_for(lambda screen: int(screen.rows[0] or 0) > 20))
+            self.assertTrue(it.wait_for(lambda screen: int(screen.rows[0] or 0) > 20, LIMIT))
 
     def test_much_output(self):
         with Terminal(["seq", "100000"], 5, 20) as it:
@@ -122,12 +129,12 @@ class Waiting(unittest.TestCase):
 
     def test_endless_output(self):
         began = time.monotonic()
-        with Terminal("yes", 5, 20, timeout=1) as it:
+        with Terminal("yes", 5, 20) as it:
             it.wait_for("y")
             self.fails("didn't come to rest", it.settle, 0.3)
             it.type("<C-c>")
             self.assertEqual(it.wait_exit(), -signal.SIGINT)
-        self.assertLess(time.monotonic() - began, 15)
+        self.assertLess(time.monotonic() - began, LIMIT)
 
 
 class Console(unittest.TestCase):
@@ -188,7 +195,7 @@ class Ends(unittest.TestCase):
         began = time.monotonic()
         it.close()
         self.assertEqual(with_mark(mark), [])
-        self.assertLess(time.monotonic() - began, 8)
+        self.assertLess(time.monotonic() - began, LIMIT)
         self.assertEqual(it.screen.rows[0], "ready")
         with self.assertRaises(ValueError):
             it.type("x")
@@ -204,10 +211,12 @@ class Ends(unittest.TestCase):
         for how in ("fails", "exits"):
             environment = {**os.environ, "PYTHONPATH": str(FOLDER), "PYTHONDONTWRITEBYTECODE": "1"}
             ran = subprocess.run(
-                [sys.executable, "-c", STARTS, how], env=environment, capture_output=True, text=True, timeout=20,
+                [sys.executable, "-c", STARTS, how], env=environment, capture_output=True, text=True, timeout=LIMIT,
                 check=False)  # fmt: skip
             self.assertTrue(ran.stdout.startswith("VT_TERMINAL="), ran.stderr)
-            time.sleep(0.1)
+            until = time.monotonic() + LIMIT
+            while with_mark(ran.stdout.strip()) and time.monotonic() < until:
+                time.sleep(0.02)
             self.assertEqual(with_mark(ran.stdout.strip()), [])
 
 

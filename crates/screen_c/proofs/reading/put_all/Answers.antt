@@ -1,7 +1,7 @@
 use Rattle.std.proofs.Common.{◌≡◌, ◌+◌, ◌++◌, ℕ, List, [], drop, map, ap, sym, ◌∙◌, arith}
 use Rattle.std.specs.List.{flat_map}
 use Rattle.std.proofs.lemmas.List.{drop_more}
-use Rattle.screen_c.proofs.Fillings.{filled}
+use Rattle.screen_c.specs.Places.{filled}
 use Rattle.screen_c.specs.Shown.{c_cell}
 use Rattle.screen_c.specs.declared.vt_cell.VtCell.{VtCell}
 use Rattle.vt_cells.specs.declared.cell.Cell.{Cell}

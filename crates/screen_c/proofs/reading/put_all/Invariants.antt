@@ -1,7 +1,6 @@
 use Rattle.std.proofs.Common.{◌≡◌, ◌+◌, ◌++◌, drop, map}
 use Rattle.std.specs.List.{flat_map}
-use Rattle.screen_c.proofs.Fillings.{filled}
-use Rattle.screen_c.specs.Places.{with_items}
+use Rattle.screen_c.specs.Places.{filled, with_items}
 use Rattle.screen_c.specs.Shown.{c_cell}
 use Rattle.screen_c.proofs.reading.put_all.Given as goal
 

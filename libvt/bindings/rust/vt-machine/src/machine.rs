@@ -66,6 +66,10 @@ fn seat(process: &Process) -> vt_sys::vt_seat {
     vt_sys::vt_seat { home: process.home, privileged: process.privileged.into(), spare: [0; 6] }
 }
 
+fn own_cells(cells: &[Cell]) -> Vec<vt_sys::vt_cell> {
+    cells.iter().map(|cell| vt_sys::vt_cell { code: cell.code, attr: cell.attribute, spare: [0; 3] }).collect()
+}
+
 fn some(number: u8) -> Option<u8> {
     (number != 0).then_some(number)
 }
@@ -191,6 +195,46 @@ impl Machine {
     /// The text that draws a console's screen on a terminal of its size.
     pub fn redraw(&self, console: u32) -> Result<Vec<u8>, Error> {
         self.text(|handle, at, room, length| unsafe { vt_sys::vt_machine_redraw(handle, console, at, room, length) })
+    }
+
+    /// All cells of a console, row by row from the top left.
+    pub fn all_cells(&self, console: u32) -> Result<Vec<Cell>, Error> {
+        let found = self.console(console)?;
+        let mut cells = vec![vt_sys::vt_cell::default(); usize::from(found.rows) * usize::from(found.cols)];
+        checked(unsafe { vt_sys::vt_machine_cells(&self.handle, console, cells.as_mut_ptr(), cells.len()) })?;
+        Ok(cells.iter().map(|cell| Cell { code: cell.code, attribute: cell.attr }).collect())
+    }
+
+    /// The text of `redraw` for a terminal of so many columns that shows these cells, row by row from the top left: only
+    /// rows that differ are in it. `Error::Range` if the terminal hasn't the console's size.
+    pub fn redraw_changes(&self, console: u32, shown: &[Cell], cols: u32) -> Result<Vec<u8>, Error> {
+        let (cells, count) = (own_cells(shown), shown.len());
+        self.text(|handle, at, room, length| unsafe {
+            vt_sys::vt_machine_redraw_changes(handle, console, cells.as_ptr(), count, cols, at, room, length)
+        })
+    }
+
+    /// The text of `redraw` for the nearest screen that a text draws.
+    pub fn redraw_near(&self, console: u32) -> Result<Vec<u8>, Error> {
+        self.text(|handle, at, room, length| unsafe {
+            vt_sys::vt_machine_redraw_near(handle, console, at, room, length)
+        })
+    }
+
+    /// The text of `redraw_changes` for that screen.
+    pub fn redraw_changes_near(&self, console: u32, shown: &[Cell], cols: u32) -> Result<Vec<u8>, Error> {
+        let (cells, count) = (own_cells(shown), shown.len());
+        self.text(|handle, at, room, length| unsafe {
+            vt_sys::vt_machine_redraw_changes_near(handle, console, cells.as_ptr(), count, cols, at, room, length)
+        })
+    }
+
+    /// A console as a picture in SVG.
+    pub fn picture(&self, console: u32) -> Result<String, Error> {
+        let text = self.text(|handle, at, room, length| unsafe {
+            vt_sys::vt_machine_picture(handle, console, at, room, length)
+        })?;
+        Ok(String::from_utf8_lossy(&text).into_owned())
     }
 
     /// The line of an entry of the journal, counted from 0, with its line feed.

@@ -71,6 +71,33 @@ fn texts() {
 }
 
 #[test]
+fn changes() {
+    let mut m = machine();
+    ask(&mut m, 1, "open", &[1]);
+    m.call(1, "write", &[0], "one\r\n\x1b[32mgrü".as_bytes()).expect("a call");
+    let mut screen = vt_screen::Screen::new(3, 10).expect("a screen");
+    screen.write(&m.redraw(1).expect("a text")).expect("a text is drawn");
+    let shown = m.all_cells(1).expect("cells");
+    assert_eq!((shown.len(), &shown[10..20]), (30, &m.cells(1, 1).expect("cells")[..]));
+    m.call(1, "write", &[0], b"\x1b[3;4Hthree").expect("a call");
+    let changes = m.redraw_changes(1, &shown, 10).expect("a text");
+    assert_eq!(m.redraw_changes_near(1, &shown, 10).as_ref(), Ok(&changes));
+    assert!(changes.len() < m.redraw(1).expect("a text").len());
+    screen.write(&changes).expect("a text is drawn");
+    for row in 0..3 {
+        assert_eq!(screen.cells(row), Ok(m.cells(1, row).expect("cells")));
+    }
+    assert_eq!(screen.picture(), Ok(m.picture(1).expect("a picture")));
+    assert_eq!(m.redraw_changes(1, &shown[1..], 10), Err(Error::Range));
+    assert_eq!(m.redraw_changes(1, &shown, 15), Err(Error::Range));
+    assert_eq!((m.all_cells(3), m.picture(3)), (Err(Error::Range), Err(Error::Range)));
+    m.call(1, "write", &[0], b"\x1b[H\x1b%@\x1b[3h\x01").expect("a call");
+    assert_eq!(m.redraw_changes(1, &shown, 10), Err(Error::NotDrawable));
+    screen.write(&m.redraw_near(1).expect("a text")).expect("a text is drawn");
+    assert_eq!(screen.cells(0).expect("cells")[0].code, 0xFFFD);
+}
+
+#[test]
 fn waits_and_journals() {
     let mut m = Machine::new(&Start { events: 3, ..start() }).expect("a machine");
     ask(&mut m, 1, "open", &[1]);

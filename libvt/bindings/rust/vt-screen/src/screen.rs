@@ -3,6 +3,7 @@ use crate::keyboard::KeyModes;
 use std::ptr;
 
 const OUTS: usize = 64;
+const ROWS: usize = 16;
 
 /// A screen of 1 to 255 rows and columns (console_codes(4)).
 pub struct Screen {
@@ -90,6 +91,38 @@ impl Screen {
         Ok(())
     }
 
+    /// Draws the bytes as `feed` does, and gives `keep` the cells of each row that falls out at the top, from its left:
+    /// a line feed in the last row moves it out. What is deleted or erased, and what a resize loses, isn't given.
+    pub fn feed_rows(
+        &mut self,
+        mut text: &[u8],
+        mut hear: impl FnMut(Event),
+        mut keep: impl FnMut(Vec<Cell>),
+    ) -> Result<(), Error> {
+        let cols = usize::from(self.size().1);
+        let mut outs = [vt_sys::vt_out::default(); OUTS];
+        let mut cells = vec![vt_sys::vt_cell::default(); ROWS * cols];
+        while !text.is_empty() {
+            let mut fed = vt_sys::vt_fed::default();
+            checked(unsafe {
+                vt_sys::vt_screen_feed_rows(
+                    &mut self.handle,
+                    text.as_ptr(),
+                    text.len(),
+                    outs.as_mut_ptr(),
+                    OUTS,
+                    cells.as_mut_ptr(),
+                    cells.len(),
+                    &mut fed,
+                )
+            })?;
+            outs[..fed.outs].iter().filter_map(event).for_each(&mut hear);
+            cells[..fed.rows * cols].chunks(cols).map(row_of).for_each(&mut keep);
+            text = &text[fed.taken..];
+        }
+        Ok(())
+    }
+
     /// Draws the bytes, and drops what they ask for.
     pub fn write(&mut self, text: &[u8]) -> Result<(), Error> {
         checked(unsafe { vt_sys::vt_screen_write(&mut self.handle, text.as_ptr(), text.len()) })
@@ -138,7 +171,7 @@ impl Screen {
     pub fn cells(&self, row: u32) -> Result<Vec<Cell>, Error> {
         let mut cells = vec![vt_sys::vt_cell::default(); usize::from(self.size().1)];
         checked(unsafe { vt_sys::vt_screen_row(&self.handle, row, cells.as_mut_ptr(), cells.len()) })?;
-        Ok(cells.iter().map(|cell| Cell { code: cell.code, attribute: cell.attr }).collect())
+        Ok(row_of(&cells))
     }
 
     /// The characters of a row.
@@ -231,6 +264,10 @@ impl Drop for Screen {
 /// How many columns a character takes: 1 or 2, or 0 for one that joins the character before it.
 pub fn columns(character: char) -> u8 {
     unsafe { vt_sys::vt_columns(u32::from(character)) }
+}
+
+fn row_of(cells: &[vt_sys::vt_cell]) -> Vec<Cell> {
+    cells.iter().map(|cell| Cell { code: cell.code, attribute: cell.attr }).collect()
 }
 
 fn parts(colour: vt_sys::vt_colour) -> Colour {

@@ -37,6 +37,22 @@ fn cells() {
 }
 
 #[test]
+fn rows_that_fall_out() {
+    let mut s = screen(2, 3);
+    let (mut events, mut rows) = (Vec::new(), Vec::new());
+    let text = b"ab\x07\r\nc\x1b[7md\r\nefgh";
+    s.feed_rows(text, |event| events.push(event), |row| rows.push(row)).expect("a text is drawn");
+    let cell = |code: char, attribute| Cell { code: code as u32, attribute };
+    assert_eq!(events, [Event::Bell]);
+    assert_eq!(rows[0], [cell('a', 7), cell('b', 7), cell(' ', 7)]);
+    assert_eq!(rows[1], [cell('c', 7), cell('d', 0x70), cell(' ', 7)]);
+    assert_eq!((rows.len(), s.row_text(1).as_deref()), (2, Ok("h  ")));
+    let mut count = 0;
+    s.feed_rows(&[b'\n'; 1000], |_| {}, |_| count += 1).expect("a text is drawn");
+    assert_eq!(count, 1000);
+}
+
+#[test]
 fn events() {
     let asking = b"\x07\x1b[6n\x1b[c\x1b[2q\x1b[12;7]\x1b[15]";
     let wanted = [

@@ -92,7 +92,8 @@ pub struct vt_out {
 pub struct vt_fed {
     pub taken: usize,
     pub outs: usize,
-    pub spare: [usize; 2],
+    pub rows: usize,
+    pub spare: [usize; 1],
 }
 
 #[repr(C)]
@@ -311,6 +312,16 @@ extern "C" {
         room: usize,
         fed: *mut vt_fed,
     ) -> u8;
+    pub fn vt_screen_feed_rows(
+        s: *mut vt_screen,
+        bytes: *const u8,
+        n: usize,
+        outs: *mut vt_out,
+        room: usize,
+        cells: *mut vt_cell,
+        cells_room: usize,
+        fed: *mut vt_fed,
+    ) -> u8;
     pub fn vt_screen_write(s: *mut vt_screen, bytes: *const u8, n: usize) -> u8;
     pub fn vt_screen_resize(s: *mut vt_screen, rows: u32, cols: u32) -> u8;
     pub fn vt_screen_state(s: *const vt_screen, state: *mut vt_state) -> u8;
@@ -393,7 +404,30 @@ extern "C" {
     pub fn vt_machine_display(m: *const vt_machine, display: *mut vt_display) -> u8;
     pub fn vt_machine_console(m: *const vt_machine, n: u32, console: *mut vt_console) -> u8;
     pub fn vt_machine_row(m: *const vt_machine, n: u32, row: u32, cells: *mut vt_cell, room: usize) -> u8;
+    pub fn vt_machine_cells(m: *const vt_machine, n: u32, cells: *mut vt_cell, room: usize) -> u8;
     pub fn vt_machine_redraw(m: *const vt_machine, n: u32, text: *mut u8, room: usize, length: *mut usize) -> u8;
+    pub fn vt_machine_redraw_changes(
+        m: *const vt_machine,
+        n: u32,
+        shown: *const vt_cell,
+        count: usize,
+        cols: u32,
+        text: *mut u8,
+        room: usize,
+        length: *mut usize,
+    ) -> u8;
+    pub fn vt_machine_redraw_near(m: *const vt_machine, n: u32, text: *mut u8, room: usize, length: *mut usize) -> u8;
+    pub fn vt_machine_redraw_changes_near(
+        m: *const vt_machine,
+        n: u32,
+        shown: *const vt_cell,
+        count: usize,
+        cols: u32,
+        text: *mut u8,
+        room: usize,
+        length: *mut usize,
+    ) -> u8;
+    pub fn vt_machine_picture(m: *const vt_machine, n: u32, text: *mut u8, room: usize, length: *mut usize) -> u8;
     pub fn vt_machine_entry(m: *const vt_machine, index: u32, text: *mut u8, room: usize, length: *mut usize) -> u8;
     pub fn vt_machine_journal(m: *const vt_machine, text: *mut u8, room: usize, length: *mut usize) -> u8;
 }

@@ -78,8 +78,8 @@ invariant_of-p g c =
     let enters : Enters number seq c.args.event.now s after c.in-Done.at c.in-Done.reply =
     c.in-Done.ensures.0 in
     let left : view c.leave.new.self.1.0 ≡ without_turn after.stop shown =
-    c.leave.ensures.1 ∙ ap (λ (x : SharedView). without_turn x.stop shown) c.publish.ensures.value in record {
-      rests = c.leave.ensures.0.1;
+    c.leave.ensures.rests.1 ∙ ap (λ (x : SharedView). without_turn x.stop shown) c.publish.ensures.value in record {
+      rests = c.leave.ensures.rests.0.1;
       named = role_after start most number seq before s held found after (view c.leave.new.self.1.0)
           c.args.event.now c.in-Done.at c.in-Done.reply enters shown
           c.publish.ensures.view c.publish.ensures.mine left;
@@ -104,11 +104,11 @@ returns-in-Done g c =
     let own : name c.self.inside.lock ≡ hub =
     c.self.view_is ∙ (sym c.requires.own ∙ sym (ap (λ (q : PassView). q.hub) c.p.view_is)) in
     let home : lock_named c.leave.new.self.1.0 ≡ hub =
-    c.leave.ensures.0.0 ∙ (ap name c.publish.ensures.lock ∙ (c.enter-held.ensures.lock ∙ own)) in
+    c.leave.ensures.rests.0.0 ∙ (ap name c.publish.ensures.lock ∙ (c.enter-held.ensures.lock ∙ own)) in
     let enters : Enters number seq c.args.event.now s after c.in-Done.at c.in-Done.reply =
     c.in-Done.ensures.0 in
     let left : view c.leave.new.self.1.0 ≡ without_turn after.stop shown =
-    c.leave.ensures.1 ∙ ap (λ (x : SharedView). without_turn x.stop shown) c.publish.ensures.value in (
+    c.leave.ensures.rests.1 ∙ ap (λ (x : SharedView). without_turn x.stop shown) c.publish.ensures.value in (
       done start most number seq before s held found after (view c.leave.new.self.1.0) c.args.event.now
           c.in-Done.at c.in-Done.reply enters shown c.publish.ensures.view
           c.publish.ensures.mine left hub c.args.p.now c.p.view_is (lock_named c.leave.new.self.1.0) home
@@ -134,12 +134,14 @@ returns-in-Full g c =
     c.self.view_is ∙ (sym c.requires.own ∙ sym (ap (λ (q : PassView). q.hub) c.p.view_is)) in
     let after : SharedView = c.call-look.new.self in
     let stops : Stops number c.args.event.now s after c.in-Full.full =
-    c.in-Full.ensures in
-    full start most number seq before s held found after
-    (view c.leave-in-Full.new.self.1.0) c.leave-in-Full.ensures.1 hub c.args.p.now c.p.view_is
-    (lock_named c.leave-in-Full.new.self.1.0)
-    (c.leave-in-Full.ensures.0.0 ∙ (c.enter-held.ensures.lock ∙ own)) c.args.event.now
-    c.in-Full.full stops c.sound-2.ensures
+    c.in-Full.ensures in (
+      full start most number seq before s held found after
+          (view c.leave-in-Full.new.self.1.0) c.leave-in-Full.ensures.rests.1 hub c.args.p.now c.p.view_is
+          (lock_named c.leave-in-Full.new.self.1.0)
+          (c.leave-in-Full.ensures.rests.0.0 ∙ (c.enter-held.ensures.lock ∙ own)) c.args.event.now
+          c.in-Full.full stops c.sound-2.ensures,
+      c.wake_all-woken.ensures,
+    )
 
 pub returns-in-Waits : goal.returns-in-Waits
 returns-in-Waits g c =
@@ -155,6 +157,6 @@ returns-in-Waits g c =
     let own : name c.self.inside.lock ≡ hub =
     c.self.view_is ∙ (sym c.requires.own ∙ sym (ap (λ (q : PassView). q.hub) c.p.view_is)) in
     waits start most number seq before s held found c.call-look.new.self
-    (view c.leave-in-Waits.new.self.1.0) c.leave-in-Waits.ensures.1 hub c.args.p.now c.p.view_is
+    (view c.leave-in-Waits.new.self.1.0) c.leave-in-Waits.ensures.rests.1 hub c.args.p.now c.p.view_is
     (lock_named c.leave-in-Waits.new.self.1.0)
-    (c.leave-in-Waits.ensures.0.0 ∙ (c.enter-held.ensures.lock ∙ own)) c.in-Waits.ensures
+    (c.leave-in-Waits.ensures.rests.0.0 ∙ (c.enter-held.ensures.lock ∙ own)) c.in-Waits.ensures

@@ -1,0 +1,7 @@
+use Rattle.std.proofs.Common.{take}
+use Rattle.std.specs.List.{All}
+use Rattle.machine_c.specs.Cells.{IsPlain}
+use Rattle.machine_c.proofs.shown_cells.are_plain.Given as goal
+
+abbrev pub invariant-loop-i : goal.invariant-loop-i
+invariant-loop-i l = All IsPlain (take l.i l.cells)

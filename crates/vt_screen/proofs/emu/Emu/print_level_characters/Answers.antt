@@ -1,0 +1,54 @@
+use Rattle.std.proofs.Common.{◌≡◌, ◌<◌, ◌==◌, false, ℕ, List, [], take, length, sym, ap, ◌∙◌, arith}
+use Rattle.std.proofs.lemmas.Bool.{cond-false}
+use Rattle.std.proofs.lemmas.Bool.Decides.{nat_tests}
+use Rattle.std.proofs.lemmas.List.{length-take-le}
+use Rattle.vt_canvas.specs.Printing.{print_characters}
+use Rattle.vt_canvas.specs.Screen.{Screen}
+use Rattle.vt_screen.proofs.Levels.{characters_level, few_columns}
+use Rattle.vt_screen.proofs.Quiet.{quiet_run}
+use Rattle.vt_screen.proofs.Shown.{codes_run}
+use Rattle.vt_screen.specs.Falling.{rows_of_run}
+use Rattle.vt_screen.specs.Run.{run_from, with_outs}
+use Rattle.vt_units.specs.Rest.{Rest, fresh}
+use Rattle.vt_units.specs.Run.{Reached, make_reached}
+use Rattle.vt_screen.proofs.emu.Emu.print_level_characters.Goals as goal
+
+pub returns-then-count-gt0-clause-ran : goal.returns-then-count-gt0-clause-ran
+returns-then-count-gt0-clause-ran c =
+    let text : List ℕ = c.args.b.now in
+    let count : ℕ = c.take_characters-count.result in
+    let front : List ℕ = take count text in
+    let s : Screen = c.self.inside.canvas in
+    let rest : Rest = c.self.inside.pending in
+    let codes : List ℕ = c.take_characters-count.new.codes in
+    let some : 0 < count = c.if-count-gt0.true in
+    let long : 0 < length front =
+    omega (arith, some, length-take-le count text c.take_characters-count.ensures.bound) in
+    let begun = c.take_characters-count.ensures.decoding some in
+    let not_none : (count == 0) ≡ false = grind (arith, nat_tests, some) in
+    let left : c.take_characters-count.new.self ≡ fresh c.mode.result =
+    c.take_characters-count.ensures.rest ∙ cond-false (count == 0) rest (fresh c.mode.result) not_none in
+    let shown : c.print_codes.new.self ≡ print_characters codes s =
+    c.print_codes.ensures ∙ ap (λ (cs : List ℕ). print_characters cs s) c.as_slice.ensures.codes in
+    let ran : run_from c.args.self.now front ≡ with_outs [] (make_reached c.print_codes.new.self c.take_characters-count.new.self) =
+    ap (λ (m : Reached Screen). run_from m front) (sym c.self.view_is)
+    ∙ codes_run c.printables_are_characters.ensures front codes s rest c.mode.result c.mode.ensures
+    c.take_characters-count.ensures.texts long begun.0 begun.1
+    ∙ (λ i. with_outs [] (make_reached (sym shown i) (sym left i))) in
+    (c.take_characters-count.ensures.bound, ran, quiet_run c.args.self.now text count _ ran)
+
+pub returns-then-count-gt0-clause-level : goal.returns-then-count-gt0-clause-level
+returns-then-count-gt0-clause-level c =
+    let text : List ℕ = c.args.b.now in
+    let count : ℕ = c.take_characters-count.result in
+    let codes : List ℕ = c.take_characters-count.new.codes in
+    let begun = c.take_characters-count.ensures.decoding c.if-count-gt0.true in
+    let few = few_columns c.columns_are_few.ensures.most codes in
+    ap (λ (m : Reached Screen). rows_of_run m (take count text)) (sym c.self.view_is)
+    ∙ characters_level c.printables_are_characters.ensures c.columns_are_few.ensures.most (take count text) codes
+    c.self.inside.canvas c.self.inside.pending c.mode.result c.mode.ensures c.take_characters-count.ensures.texts begun.0 begun.1
+    (λ more. (
+      c.room.ensures.unwrapped (omega (arith, more, few, c.take_characters-count.ensures.most, c.min-most.ensures)),
+      c.room.ensures.closed (omega (arith, more, few, c.take_characters-count.ensures.most, c.min-most.ensures)),
+      omega (arith, few, c.take_characters-count.ensures.most, c.min-most.ensures, c.room.ensures.fits),
+    ))

@@ -1,0 +1,150 @@
+//! A text of any length, and the rows that fall out at the top of the screen.
+ghost use Rattle.std.specs.Prelude.{◌≡◌, ◌<◌, ◌≤◌, [], ◌∷◌, None, length, take};
+ghost use Rattle.vt_screen.specs.Falling.{IsLevelBefore, rows_of_run};
+ghost use Rattle.vt_screen.specs.Run.{HasRun, IsQuietBefore, after, outs_of_option, outs_of_run, run_from, with_outs};
+
+use super::Emu;
+use crate::FallenRows;
+use vt_canvas::SideEffect;
+use vt_cells::columns_are_few;
+use vt_units::{Codes, MOST_CODES, Then, Unit, printables_are_characters, sequences_are_units};
+
+impl Emu {
+    /// Does what [`Emu::write_until`] does, and ends also after the first byte by which a row falls out at the
+    /// top of the screen. `rows` then is the rows that fell out by it: two at most, and none if it ended for
+    /// another reason, except that the same byte may have a side effect.
+    pub fn write_until_row(
+        &mut self,
+        b: &[u8],
+        effect: &mut SideEffect,
+        rows: &mut FallenRows,
+    ) -> usize
+        ensures within { result ≤ length b.now }
+        ensures screen { self.new ≡ after self.old (take result b.now) }
+        ensures effect { outs_of_option effect.new ≡ outs_of_run self.old (take result b.now) }
+        ensures rows { rows.new ≡ rows_of_run self.old (take result b.now) }
+        ensures first { IsQuietBefore result self.old b.now }
+        ensures level { IsLevelBefore result self.old b.now }
+        ensures all { effect.new ≡ None → rows.new ≡ [] → result ≡ length b.now }
+    {
+        effect.clear();
+        rows.clear();
+        let mut at = 0;
+        while at < b.len() && effect.is_none() && rows.is_empty() {
+            at += self.take_prefix_by_rows(&b[at..], effect, rows);
+        }
+        at
+    }
+
+    // Runs the start of the text, as much at once as possible, and returns the number of its bytes. No row
+    // falls out before the last of them.
+    #[inline(always)]
+    fn take_prefix_by_rows(
+        &mut self,
+        b: &[u8],
+        said: &mut SideEffect,
+        rows: &mut FallenRows,
+    ) -> usize
+        requires text { 0 < length b.now }
+        requires empty { rows.old ≡ [] }
+        ensures some { 0 < result }
+        ensures ran { HasRun self.old b.now result self.new said.new }
+        ensures rows { rows.new ≡ rows_of_run self.old (take result b.now) }
+        ensures level { IsLevelBefore result self.old b.now }
+    {
+        let count = self.take_level(b, said);
+        if count > 0 {
+            return count;
+        }
+        self.take_by_rows(b[0], said, rows);
+        1
+    }
+
+    // Runs the start of the text, if it is one of those by which no row falls out: characters that end in the
+    // cursor's row, or a control sequence. Returns the number of its bytes.
+    #[inline(always)]
+    fn take_level(&mut self, b: &[u8], said: &mut SideEffect) -> usize
+        requires { 0 < length b.now }
+        ensures ran { HasRun self.old b.now result self.new said.new }
+        ensures level { rows_of_run self.old (take result b.now) ≡ [] }
+    {
+        if b[0] == 0x1B {
+            return self.take_control_sequence(b, said);
+        }
+        said.clear();
+        if b[0] < 0x20 || self.canvas.room() == 0 {
+            0
+        } else if b[0] < 0x80 {
+            self.print_run(b)
+        } else {
+            self.print_level_characters(b)
+        }
+    }
+
+    // Runs the control sequence of one or two short parameters that the text begins with, and returns the number
+    // of its bytes.
+    #[inline(always)]
+    fn take_control_sequence(&mut self, b: &[u8], said: &mut SideEffect) -> usize
+        ensures ran { HasRun self.old b.now result self.new said.new }
+        ensures level { rows_of_run self.old (take result b.now) ≡ [] }
+    {
+        sequences_are_units();
+        match self.pending.take_short_csi(self.canvas.mode(), b) {
+            Some(brief) => {
+                self.canvas
+                    .dispatch_short_csi(brief.first, brief.second, brief.both, brief.last, said);
+                brief.count
+            }
+            None => {
+                said.clear();
+                0
+            }
+        }
+    }
+
+    // Prints whole characters at the start of the text that end in the cursor's row, and returns the number of
+    // their bytes. Each takes two columns at most.
+    #[inline(never)]
+    fn print_level_characters(&mut self, b: &[u8]) -> usize
+        ensures ran { HasRun self.old b.now result self.new None }
+        ensures level { rows_of_run self.old (take result b.now) ≡ [] }
+    {
+        printables_are_characters();
+        columns_are_few();
+        let most = MOST_CODES.min(self.canvas.room() / 2);
+        let mut codes = Codes::new();
+        let count = self
+            .pending
+            .take_characters(self.canvas.mode(), b, most, &mut codes);
+        if count > 0 {
+            self.canvas.print_codes(codes.as_slice());
+        }
+        count
+    }
+
+    // Reads a byte and applies its result. `rows` then has the rows that fall out by it.
+    #[inline(never)]
+    fn take_by_rows(&mut self, byte: u8, said: &mut SideEffect, rows: &mut FallenRows)
+        requires { rows.old ≡ [] }
+        ensures ran { run_from self.old (byte ∷ []) ≡ with_outs (outs_of_option said.new) self.new }
+        ensures rows { rows.new ≡ rows_of_run self.old (byte ∷ []) }
+    {
+        said.clear();
+        let read = self.pending.take(self.canvas.mode(), byte);
+        if read.bad {
+            rows.keep(&self.canvas, &Unit::Char(0xFFFD));
+            self.canvas.print(0xFFFD);
+        }
+        match read.got {
+            Then::Unit(unit) => {
+                rows.keep(&self.canvas, &unit);
+                self.canvas.dispatch(&unit, said);
+            }
+            Then::Act(code) => {
+                rows.keep(&self.canvas, &Unit::Control(code));
+                self.canvas.control(code, said);
+            }
+            Then::More | Then::Dropped => {}
+        }
+    }
+}

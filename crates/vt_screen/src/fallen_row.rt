@@ -1,0 +1,69 @@
+ghost use Rattle.std.specs.Prelude.{◌≡◌, ◌<◌, ◌≤◌, [], ◌∷◌, ◌++◌, length};
+ghost use Rattle.vt_grid.specs.Grid.{row_at};
+
+use std::marker::Model;
+use vt_canvas::BLANK;
+use vt_cells::Cell;
+use vt_grid::Grid;
+
+/// The most cells of a row.
+const MOST_CELLS: usize = 255;
+
+/// A row that fell out, from its left.
+#[derive(Drop)]
+pub(crate) struct FallenRow {
+    cells: [Cell; MOST_CELLS],
+    len: usize,
+}
+
+impl Model for FallenRow {
+    ghost use Rattle.std.specs.Prelude.{◌≤◌, List, take};
+    ghost use Rattle.vt_cells.specs.declared.cell.Cell.{Cell};
+
+    ghost Value = { List Cell };
+
+    ghost view = { λ r. take r.len r.cells };
+
+    ghost invariant = { λ r. r.len ≤ 255 };
+}
+
+impl FallenRow {
+    /// No cells.
+    pub(crate) fn new() -> FallenRow
+        ensures { result ≡ [] }
+    {
+        FallenRow {
+            cells: [BLANK; MOST_CELLS],
+            len: 0,
+        }
+    }
+
+    /// The cells become those of the first row of the grid.
+    pub(crate) fn copy_first_row(&mut self, grid: &Grid)
+        requires { 0 < grid.now.rows }
+        ensures { self.new ≡ row_at grid.now 0 }
+    {
+        grid.stays_full();
+        self.len = 0;
+        for cell in grid.row(0) {
+            self.push(cell);
+        }
+    }
+
+    // Adds a cell at the end.
+    #[inline(always)]
+    fn push(&mut self, cell: Cell)
+        requires { length self.old < 255 }
+        ensures { self.new ≡ self.old ++ cell ∷ [] }
+    {
+        self.cells[self.len] = cell;
+        self.len += 1;
+    }
+
+    /// The cells.
+    pub(crate) fn as_slice(&self) -> &[Cell]
+        ensures { result.now ≡ self.now }
+    {
+        &self.cells[..self.len]
+    }
+}
