@@ -145,10 +145,10 @@ adds_trans all o before a b c one two = record {
 -- what a call was found for
 pub found_passed : (all : List Wants) (o : Setup) (order longer : List ℕ) (n p : ℕ) (e : Event) (r : Reply) (m : Position)
     (old new : List Finding) → call_now o (history_of o order) p ≡ Some e
-    → HasMade o (history_of o order) p e r m → longer ≡ order ++ p ∷ []
+    → HasMade o (history_of o order) p e r m → longer ≡ order ++ p ∷ [] → length (history_of o order) ≡ length order
     → AddsPassed all (λ (wants : Wants). wants p e (plain_reply r) m.world) longer n old new
     → AddsFound all o order old new
-found_passed all o order longer n p e r m old new now made parts adds = record {
+found_passed all o order longer n p e r m old new now made parts full adds = record {
   more = adds.more;
   is = adds.is;
   each = λ k f at.
@@ -157,7 +157,7 @@ found_passed all o order longer n p e r m old new now made parts adds = record {
         wants = passed.wants;
         question = passed.question;
         ends = subst (EndsAsked passed.wants o order) (sym passed.order_is)
-            (found_call passed.wants o order longer p e r m now made passed.passed parts);
+            (found_call passed.wants o order longer p e r m now made passed.passed parts full);
         open_before = passed.open_before;
       };
 }

@@ -1,6 +1,6 @@
 -- The answers over orders as answers over histories.
 use Rattle.std.proofs.Common.{◌≡◌, ℕ, List, [], ◌∷◌, ◌++◌, length, take, Option, Some, arith, refl, sym, ap, ◌∙◌, subst}
-use Rattle.std.proofs.lemmas.List.{length-map, length-take, map-append}
+use Rattle.std.proofs.lemmas.List.{length-map, length-take, length_push, map-append}
 use Rattle.std.proofs.lemmas.Option.{same_Some, slice_get_within}
 use Rattle.std.specs.Prelude.{slice_get}
 use Rattle.vt_explore.proofs.Calls.{next_now}
@@ -106,6 +106,10 @@ found_in_histories legal turns meant grows wants s order from first =
       before = b;
       last = entry;
       history = history;
+      turns =
+          (let parts = ap length found.parts in
+          let push = length_push first.before p in
+          omega (arith, parts, push, found.full));
       legal = is_legal;
       follows = follows;
       asked = (λ i. wants p (event i) (next.answer i) (world i)) ∙ found.makes.wanted;

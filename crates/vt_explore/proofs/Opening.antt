@@ -1,5 +1,5 @@
 -- A caller's call after a known order: it is asked for, or it leads to a known order.
-use Rattle.std.proofs.Common.{◌≡◌, ℕ, true, false, List, [], ◌∷◌, ◌++◌, Some, sym, ◌∙◌, subst}
+use Rattle.std.proofs.Common.{◌≡◌, ℕ, true, false, List, [], ◌∷◌, ◌++◌, length, Some, sym, ◌∙◌, subst}
 use Rattle.std.proofs.lemmas.Option.{same_Some}
 use Rattle.vt_explore.specs.Alike.{HasLike}
 use Rattle.vt_explore.specs.Positions.{HasMade}
@@ -32,9 +32,11 @@ opened_call wants o known h p e r m now made isnt like = record {
 
 pub found_call : (wants : Wants) (o : Setup) (order longer : List ℕ) (p : ℕ) (e : Event) (r : Reply) (m : Position)
     → call_now o (history_of o order) p ≡ Some e → HasMade o (history_of o order) p e r m
-    → wants p e (plain_reply r) m.world ≡ true → longer ≡ order ++ p ∷ [] → EndsAsked wants o order longer
-found_call wants o order longer p e r m now made is parts = record {
+    → wants p e (plain_reply r) m.world ≡ true → longer ≡ order ++ p ∷ []
+    → length (history_of o order) ≡ length order → EndsAsked wants o order longer
+found_call wants o order longer p e r m now made is parts full = record {
   last = p;
   parts = parts;
   makes = record { call = e; now = now; wanted = asked_is wants o (history_of o order) p e r m made ∙ is };
+  full = full;
 }

@@ -1,5 +1,5 @@
 -- Known orders in the order of their numbers of calls.
-use Rattle.std.proofs.Common.{◌≡◌, ◌⊎◌, inl, inr, ℕ, ◌+◌, ◌≤◌, zero, suc, ⊎_elim, arith, List, [], ◌∷◌, ◌++◌, length, Some, sym, ap}
+use Rattle.std.proofs.Common.{◌≡◌, ◌⊎◌, inl, inr, ℕ, ◌+◌, ◌≤◌, zero, suc, ⊎_elim, arith, List, [], ◌∷◌, ◌++◌, length, Some, refl, sym, ap, subst}
 use Rattle.std.proofs.lemmas.Option.{none-some, same_Some, slice_get_within}
 use Rattle.std.specs.Prelude.{slice_get}
 use Rattle.vt_explore.specs.Searches.{AreSorted}
@@ -31,6 +31,7 @@ sorted_start o last is = record {
   few = λ k a at.
       let first : length (history_of o a) ≡ 0 = sym (ap (λ order. length (history_of o order)) (get_only [] a k at)) in
       omega (arith, first);
+  full = λ k a at. subst (λ order. length (history_of o order) ≡ length order) (get_only [] a k at) refl;
 }
 
 pub sorted_more : (o : Setup) (known : List (List ℕ)) (most more : ℕ) → most ≤ more → AreSorted o known most
@@ -38,13 +39,21 @@ pub sorted_more : (o : Setup) (known : List (List ℕ)) (most more : ℕ) → mo
 sorted_more o known most more above sorted = record {
   rises = sorted.rises;
   few = λ k a at. let low = sorted.few k a at in omega (arith, low, above);
+  full = sorted.full;
 }
 
 -- a longest order at the end
 pub sorted_push : (o : Setup) (known : List (List ℕ)) (order : List ℕ) (most : ℕ) → length (history_of o order) ≡ most
-    → AreSorted o known most → AreSorted o (known ++ order ∷ []) most
-sorted_push o known order most is sorted = record { rises = rising; few = few }
+    → length (history_of o order) ≡ length order → AreSorted o known most → AreSorted o (known ++ order ∷ []) most
+sorted_push o known order most is all sorted = record { rises = rising; few = few; full = full }
   where
+    full : (k : ℕ) (a : List ℕ) → slice_get (known ++ order ∷ []) k ≡ Some a → length (history_of o a) ≡ length a
+    full k a at =
+        ⊎_elim
+        (λ first. sorted.full k a first)
+        (λ last. subst (λ made. length (history_of o made) ≡ length made) (get_only order a last.1.0 last.1.1) all)
+        (get_either known (order ∷ []) k a at)
+
     few : (k : ℕ) (a : List ℕ) → slice_get (known ++ order ∷ []) k ≡ Some a → length (history_of o a) ≤ most
     few k a at =
         ⊎_elim

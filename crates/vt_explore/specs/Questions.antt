@@ -1,5 +1,5 @@
 -- Questions about the calls of a session, and their answers over all its histories. This project's own.
-use Rattle.std.specs.Prelude.{◌≡◌, ◌≤◌, ⊤, ◌⊎◌, ℕ, Bool, true, false, List, [], ◌∷◌, ◌++◌, length, take, Option, Some, None, is_some, slice_get}
+use Rattle.std.specs.Prelude.{◌≡◌, ◌≤◌, ◌+◌, ⊤, ◌⊎◌, ℕ, Bool, true, false, List, [], ◌∷◌, ◌++◌, length, take, Option, Some, None, is_some, slice_get}
 use Rattle.vt_explore.specs.declared.outcome.End.{End}
 use Rattle.vt_explore.specs.declared.outcome.End.TheVariants as stop
 use Rattle.session_order.specs.Follows.{Follows}
@@ -39,12 +39,13 @@ IsNotBefore wants s n =
     → Follows (start_of s) s.programs history → slice_get history k ≡ Some entry
     → IsAsked wants (start_of s) (take k history) entry → n ≤ k
 
--- the history of this order is legal and follows the programs, its last entry is asked for, and no shorter history
--- has such an entry
+-- the history of this order is legal and follows the programs, each turn makes a call, the last entry is asked for,
+-- and no shorter history has such an entry
 pub record IsFound (wants : Wants) (s : SessionView) (order : List ℕ) : Type 0 where
   pub before : List Entry
   pub last : Entry
   pub history : history_of (setup_of s) order ≡ before ++ last ∷ []
+  pub turns : length order ≡ length before + 1
   pub legal : IsLegal (start_of s) (before ++ last ∷ [])
   pub follows : Follows (start_of s) s.programs (before ++ last ∷ [])
   pub asked : IsAsked wants (start_of s) before last

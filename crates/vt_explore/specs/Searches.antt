@@ -28,6 +28,8 @@ pub record EndsAsked (wants : Wants) (o : Setup) (before order : List ℕ) : Typ
   pub last : ℕ
   pub parts : order ≡ before ++ last ∷ []
   pub makes : Makes wants o (history_of o before) last
+  -- each turn before it makes a call
+  pub full : length (history_of o before) ≡ length before
 
 -- no order makes a call that is asked for
 abbrev pub NoneMakes : Wants → Setup → Type 0
@@ -60,12 +62,13 @@ AreOpened wants o known n =
     (k : ℕ) (order : List ℕ) (p : ℕ) → k < n → slice_get known k ≡ Some order
     → IsOpened wants o known (history_of o order) p
 
--- no known order has more calls than a later one, and none has more than `most`
+-- no known order has more calls than a later one, none has more than `most`, and each turn of each makes a call
 pub record AreSorted (o : Setup) (known : List (List ℕ)) (most : ℕ) : Type 0 where
   pub rises :
       (j k : ℕ) (a b : List ℕ) → j ≤ k → slice_get known j ≡ Some a → slice_get known k ≡ Some b
       → length (history_of o a) ≤ length (history_of o b)
   pub few : (k : ℕ) (a : List ℕ) → slice_get known k ≡ Some a → length (history_of o a) ≤ most
+  pub full : (k : ℕ) (a : List ℕ) → slice_get known k ≡ Some a → length (history_of o a) ≡ length a
 
 -- if the start is known, and all known orders are opened, no call is asked for in any order
 abbrev pub OpenedAreAll : Type 0

@@ -95,6 +95,7 @@ impl Search {
     ) -> Result<Tried, NoMemory>
         requires pool { IsPool (setup_of s.now) pool.old }
         requires base { IsHeld (setup_of s.now) base.now }
+        requires full { length (history_of (setup_of s.now) base.now.order) ≡ length base.now.order }
         requires sorted { AreSorted (setup_of s.now) self.now (length (history_of (setup_of s.now) base.now.order) + 1) }
         ensures pool { OnOk result (IsPool (setup_of s.now) pool.new) }
         ensures grows { OnOk result (Extends self.old self.new) }
@@ -128,6 +129,7 @@ impl Search {
         requires caller { n < 68 }
         requires pool { IsPool (setup_of s.now) pool.old }
         requires base { IsHeld (setup_of s.now) base.now }
+        requires full { length (history_of (setup_of s.now) base.now.order) ≡ length base.now.order }
         requires sorted { AreSorted (setup_of s.now) self.now (length (history_of (setup_of s.now) base.now.order) + 1) }
         ensures pool { OnOk result (IsPool (setup_of s.now) pool.new) }
         ensures grows { OnOk result (Extends self.old self.new) }
@@ -166,6 +168,7 @@ impl Search {
     ) -> Result<Tried, NoMemory>
         requires pool { IsPool (setup_of s.now) pool.old }
         requires base { IsHeld (setup_of s.now) base.now }
+        requires full { length (history_of (setup_of s.now) base.now.order) ≡ length base.now.order }
         requires sorted { AreSorted (setup_of s.now) self.now (length (history_of (setup_of s.now) base.now.order) + 1) }
         requires program { program_of (setup_of s.now).programs p ≡ Some program.now }
         requires call { call_now (setup_of s.now) (history_of (setup_of s.now) base.now.order) p ≡ Some event.now }
@@ -203,6 +206,7 @@ impl Search {
     ) -> Result<(), NoMemory>
         requires pool { IsPool (setup_of s.now) pool.old }
         requires at { IsHeld (setup_of s.now) held }
+        requires full { length (history_of (setup_of s.now) held.order) ≡ length held.order }
         requires sorted { AreSorted (setup_of s.now) self.now (length (history_of (setup_of s.now) held.order)) }
         ensures pool { OnOk result (IsPool (setup_of s.now) pool.new) }
         ensures grows { OnOk result (Extends self.old self.new) }

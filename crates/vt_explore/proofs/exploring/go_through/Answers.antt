@@ -103,3 +103,12 @@ returns-then-has_at_most-clause-none g c = λ i wants at none.
     (λ k order p low is.
     c.loop-next.invariant.tried i wants at none k order p (omega (arith, low, c.loop-next-test.false)) is)
     past
+
+pub expand-requires-clause-full : goal.expand-requires-clause-full
+expand-requires-clause-full g c =
+    let last : List ℕ = c.in_ok-base.base.order in
+    let n : ℕ = c.loop-next.next in
+    let here : slice_get c.loop-next.search n ≡ Some last =
+    found_some (λ order. order.now) c.at.result _ c.in-Some.order c.at.ensures c.in-Some.is
+    ∙ ap Some (sym c.in_ok-base.ensures.order) in
+    (c.loop-next.invariant.sorted last here).full n last here

@@ -33,7 +33,7 @@ returns-clause-sorted c =
     subst (λ known. AreSorted o known most)
     (sym (c.in_ok-push.ensures.items
     ∙ (λ i. c.self.view_is i ++ (c.in_ok-order.ensures ∙ c.order.ensures) i ∷ [])))
-    (sorted_push o c.args.self.now c.args.held.order most refl c.requires.sorted)
+    (sorted_push o c.args.self.now c.args.held.order most refl c.requires.full c.requires.sorted)
 
 pub returns-clause-known : goal.returns-clause-known
 returns-clause-known c =

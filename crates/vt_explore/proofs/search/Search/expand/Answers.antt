@@ -91,3 +91,6 @@ returns-clause-pool g c = c.loop-n.invariant.pool
 
 pub returns-in-Full-clause-pool : goal.returns-in-Full-clause-pool
 returns-in-Full-clause-pool g c = c.in_ok-tried.ensures.pool
+
+pub try_caller-requires-clause-full : goal.try_caller-requires-clause-full
+try_caller-requires-clause-full g c = c.requires.full

@@ -1,4 +1,4 @@
-use Rattle.std.proofs.Common.{◌≡◌, ℕ, ◌+◌, Bool, List, [], ◌∷◌, ◌++◌, length, map, Some, sym, ap, ◌∙◌, subst}
+use Rattle.std.proofs.Common.{◌≡◌, ℕ, ◌+◌, Bool, List, [], ◌∷◌, ◌++◌, length, map, Some, arith, sym, ap, ◌∙◌, subst}
 use Rattle.std.proofs.lemmas.List.{length-map, length_push}
 use Rattle.vt_events.specs.Plain.{plain_reply}
 use Rattle.vt_explore.proofs.Finding.{found_passed, tried_passed}
@@ -48,6 +48,29 @@ enter-requires-clause-at g c =
     let grown : history_of o longer ≡ h ++ new ∷ [] = longer_is o order longer p e parts c.requires.call in
     let calls : length (history_of o longer) ≡ length h + 1 = ap length grown ∙ length_push h new in
     subst (λ made. IsAfter o made c.make.new.self.position) (sym grown) made.after
+
+pub enter-requires-clause-full : goal.enter-requires-clause-full
+enter-requires-clause-full g c =
+    let o : Setup = setup_of c.args.s.now in
+    let p : ℕ = c.args.p in
+    let e : Event = c.args.event.now in
+    let order : List ℕ = c.args.base.now.order in
+    let h : List Entry = history_of o order in
+    let longer : List ℕ = c.make.new.self.order in
+    let copied : IsHeld o c.in_ok-held.held = subst (IsHeld o) (sym c.in_ok-held.ensures.same) c.requires.base in
+    let same : c.in_ok-held.held.order ≡ order = ap (λ (held : HeldState). held.order) c.in_ok-held.ensures.same in
+    let made : HasMade o h p e c.in_ok-reply.reply c.make.new.self.position =
+    subst (λ turns. HasMade o (history_of o turns) p e c.in_ok-reply.reply c.make.new.self.position) same
+    (c.in_ok-reply.ensures.made o c.requires.program
+    (subst (λ turns. call_now o (history_of o turns) p ≡ Some e) (sym same) c.requires.call) copied) in
+    let parts : longer ≡ order ++ p ∷ [] =
+    c.in_ok-reply.ensures.order ∙ ap (λ turns. turns ++ p ∷ []) same in
+    let new : Entry = entry_at o.start h p e in
+    let grown : history_of o longer ≡ h ++ new ∷ [] = longer_is o order longer p e parts c.requires.call in
+    let calls : length (history_of o longer) ≡ length h + 1 = ap length grown ∙ length_push h new in
+    let more = length_push order p in
+    let turns = ap length parts in
+    omega (arith, calls, more, turns, c.requires.full)
 
 pub enter-requires-clause-sorted : goal.enter-requires-clause-sorted
 enter-requires-clause-sorted g c =
@@ -119,7 +142,7 @@ returns-clause-found g c =
     (subst (λ turns. AddsPassed all (λ wants. wants p e (plain_reply c.in_ok-reply.reply) c.position.result.now.world) turns
     (length c.args.questions.now) c.args.findings.now c.ask.new.self) c.order.ensures c.in_ok-ask.ensures)) in
     found_passed all o order longer (length c.args.questions.now) p e c.in_ok-reply.reply c.make.new.self.position
-    c.args.findings.now c.ask.new.self c.requires.call made parts adds
+    c.args.findings.now c.ask.new.self c.requires.call made parts c.requires.full adds
 
 pub returns-clause-known : goal.returns-clause-known
 returns-clause-known g c =

@@ -103,3 +103,6 @@ returns-clause-known g c =
     subst
     (λ q. IfOk c.try_call.result (λ t. IfKnown t (IsTried all c.try_call.new.findings o c.try_call.new.self h q)))
     (c.numbered-p.ensures ∙ c.from.ensures) c.try_call.ensures.known
+
+pub try_call-requires-clause-full : goal.try_call-requires-clause-full
+try_call-requires-clause-full g c = c.requires.full
