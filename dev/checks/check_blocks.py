@@ -94,6 +94,7 @@ LEFT = {
     "docs/guide/tour.md": {"console 1  ====": DRAWING},
     "docs/guide/write-a-terminal.md": {"sequence          pyte": "measured figures of other engines"},
     "docs/library/c.md": {
+        "struct vt_cell shown": "a part of a program; libvt/tests/machine_codes.c makes these calls",
         "libvt/bench/c_library.py": "a measurement of many minutes", "pip wheel": "check_python.py makes a wheel in a folder of its own",
     },
     "examples/conformance/README.md": {"dev/gen/make_conformance.py --more": "it writes 100,000 cases"},
