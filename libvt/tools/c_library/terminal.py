@@ -12,7 +12,7 @@ from programs import Missing, find
 
 from .bench import EXAMPLES, SANITIZERS, TERM, TOP
 
-LIMIT = 20
+LIMIT = 120  # seconds, far beyond what any of them takes
 ROWS, COLS = 24, 80
 # What it writes last: the wrap, the pen, the cursor and the screen as they were.
 END = b"\x1b[?7h\x1b[0m\x1b[?25h\x1b[?1049l"
@@ -205,9 +205,11 @@ def check_scrollback(bench, vt, program):
         rows = shown_rows(vt, terminal)
         bench.holds(rows[0] == wanted, f"after {typed} the first row is {wanted}: {rows[0]}")
     terminal.type(b"\x1b[5;2~")
-    terminal.read(1.0)
-    rows = shown_rows(vt, terminal)
     wanted = [f"row {n}" for n in range(26, 38)]
+    end = time.monotonic() + LIMIT
+    while shown_rows(vt, terminal)[:12] != wanted and time.monotonic() < end and terminal.read(0.1):
+        pass
+    rows = shown_rows(vt, terminal)
     bench.holds(rows[:12] == wanted, f"above the screen are the rows that fell out: {rows}")
     terminal.type(b"\r")
     bench.holds(terminal.wait_for(b"last"), "a key shows the screen again")
