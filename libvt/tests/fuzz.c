@@ -74,6 +74,30 @@ static void feed(struct pair *p)
     free(text);
 }
 
+/* The same, with room for two to five rows that fall out. */
+static void feed_rows(struct pair *p)
+{
+    size_t length, most = 2 + byte() % 4u, room = most * (p->is_made ? p->cols : 1u);
+    uint8_t *text = piece(&length);
+    struct vt_cell *cells = malloc(room * sizeof *cells);
+    struct vt_out outs[5];
+    struct vt_fed fed;
+    must(cells != NULL);
+    if (!p->is_made)
+        must(vt_screen_feed_rows(&p->fed, text, length, outs, 5, cells, room, &fed) == VT_NOTHING);
+    else
+        must(vt_screen_feed_rows(&p->fed, text, length, outs, 5, cells, 2 * p->cols - 1, &fed) == VT_NO_ROOM);
+    for (size_t at = 0; at < length && p->is_made; at += fed.taken) {
+        must(vt_screen_feed_rows(&p->fed, text + at, length - at, outs, 5, cells, room, &fed) == VT_OK);
+        must(fed.taken > 0 && fed.taken <= length - at && fed.outs <= 5 && fed.rows <= most);
+        must(fed.taken == length - at || fed.outs == 5 || fed.rows + 2 > most);
+        for (size_t i = 0; i < fed.rows * p->cols; i++)
+            must(cells[i].code <= VT_HALF && cells[i].spare[0] == 0);
+    }
+    must(vt_screen_write(&p->written, text, length) == (p->is_made ? VT_OK : VT_NOTHING));
+    free(text), free(cells);
+}
+
 static void look(struct pair *p)
 {
     uint32_t y = number(), x = number();
@@ -325,7 +349,8 @@ int LLVMFuzzerTestOneInput(const uint8_t *data, size_t size)
         switch (which % 16) {
         case 0: make(p); break;
         case 1: which & 32 ? on_machine() : drop(p); break;
-        case 2: case 3: case 4: feed(p); break;
+        case 2: case 3: feed(p); break;
+        case 4: which & 32 ? feed_rows(p) : feed(p); break;
         case 5: look(p); break;
         case 6: resize(p); break;
         case 7: set(p); break;
