@@ -1,12 +1,12 @@
-ghost use Rattle.std.specs.Prelude.{◌≡◌, vec_len, IfOk};
+ghost use Rattle.std.specs.Prelude.{◌≡◌, ◌<◌, vec_len, IfOk};
 
 use crossbeam_utils::sync::{EventCount, Key};
 use std::alloc::Global;
 use std::marker::Model;
 use vt_base::NoMemory;
 
-/// Numbers that are this many apart share a bell.
-const BELLS: usize = 128;
+/// How many bells the tickets of the lock have, and how many the numbers of its door.
+pub(crate) const BELLS: usize = 128;
 
 /// That the bell of a number was rung. [`Bells::ring`] alone makes one. Contracts see the number.
 #[derive(Drop)]
@@ -22,27 +22,33 @@ impl Model for Rung {
     ghost view = { λ r. r.number };
 }
 
-/// Bells for numbers that are drawn in turn: a caller that waits for its number sleeps at the number's bell.
+/// `N` bells: a caller that waits for a number sleeps at the number's bell. Numbers that are `N` apart share a bell.
 #[derive(Drop)]
-pub(crate) struct Bells {
+pub struct Bells<const N: usize> {
     each: Vec<EventCount>,
-    ghost all: { vec_len each ≡ 128 },
+    ghost all: { vec_len each ≡ N },
+    ghost some: { 0 < N },
 }
 
-impl Bells {
-    pub(crate) fn hang(alloc: Global) -> Result<Bells, NoMemory> {
-        Ok(Bells {
-            each: all_bells(alloc)?,
-        })
+impl<const N: usize> Bells<N> {
+    /// Bells at which nobody waits.
+    pub fn hang(alloc: Global) -> Result<Bells<N>, NoMemory>
+        requires { 0 < N }
+    {
+        let mut each = Vec::with_capacity(alloc, N)?;
+        for _bell in 0..N {
+            each.push(EventCount::new())?;
+        }
+        Ok(Bells { each })
     }
 
     /// A wait at the bell of this number, which ends at the next ring.
-    pub(crate) fn announced(&self, number: u64) -> Key<'_> {
+    pub fn announced(&self, number: u64) -> Key<'_> {
         self.bell(number).prepare_wait()
     }
 
     /// Ends every wait at the bell of this number.
-    pub(crate) fn ring(&self, number: u64) -> Rung
+    pub fn ring(&self, number: u64) -> Rung
         ensures { result ≡ number }
     {
         self.bell(number).notify_all();
@@ -50,16 +56,6 @@ impl Bells {
     }
 
     fn bell(&self, number: u64) -> &EventCount {
-        &self.each[(number % BELLS as u64) as usize]
+        &self.each[(number % N as u64) as usize]
     }
-}
-
-fn all_bells(alloc: Global) -> Result<Vec<EventCount>, NoMemory>
-    ensures { IfOk result (λ each. vec_len each ≡ 128) }
-{
-    let mut each = Vec::with_capacity(alloc, BELLS)?;
-    for _bell in 0..BELLS {
-        each.push(EventCount::new())?;
-    }
-    Ok(each)
 }

@@ -4,7 +4,7 @@
 ghost use Rattle.std.specs.Prelude.{◌≡◌, ◌≤◌, true};
 ghost use Rattle.turn_lock.specs.Visits.{HasCome, WaitsAt};
 
-use crate::bells::{Bells, Rung};
+use crate::bells::{BELLS, Bells, Rung};
 use crate::counts::{
     Arrive, CALLED, CAME, CallIn, ComeIn, Counts, DrawNumber, ENTERED, LookForCall, ReadCame,
     ReadEntered,
@@ -33,7 +33,7 @@ pub(crate) struct Door {
     pub(crate) counts: Counts,
     /// The ticket that was served when the last caller was called in.
     since: AtomicU64,
-    bells: Bells,
+    bells: Bells<BELLS>,
     ghost sized: { counts.shared.table_id.words ≡ 3 },
 }
 

@@ -17,7 +17,7 @@ mod seal;
 mod view;
 mod visitor;
 
-pub use bells::Rung;
+pub use bells::{Bells, Rung};
 pub use door::Looked;
 pub use entry::Entry;
 pub use held::{Held, Left};

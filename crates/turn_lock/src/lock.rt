@@ -6,7 +6,7 @@ ghost use Rattle.turn_lock.specs.Rule.{Rule};
 use crate::atomic_steps::{
     CompareJoined, JoinStep, LoadFront, LoadServing, Picked, SplitStep, TakeTicket,
 };
-use crate::bells::Bells;
+use crate::bells::{BELLS, Bells};
 use crate::board::{FRONT, LockWords, NEXT, Place, SERVING, SLOT};
 use crate::door::Door;
 use crate::held::Held;
@@ -27,7 +27,7 @@ const LOOKS: u32 = 20;
 #[derive(Drop)]
 pub struct TurnLock<K: Kept> {
     pub(crate) board: LockWords<K>,
-    pub(crate) bells: Bells,
+    pub(crate) bells: Bells<BELLS>,
     pub(crate) door: Door,
     ghost sized: { (board.shared.table_id.words ≡ 3) × (board.shared.table_id.slots ≡ 1) },
 }

@@ -1,28 +1,28 @@
-ghost use Rattle.std.specs.Prelude.{◌≡◌, ◌==◌, ◌%◌, ◌||◌, ℕ, vec_len, IfOk, if◌then◌else◌};
+ghost use Rattle.std.specs.Prelude.{◌≡◌, ◌==◌, ◌%◌, ◌||◌, ℕ, if◌then◌else◌};
 ghost use Rattle.vt_hub.specs.Waiters.{AreAll, IsProcess, has_process};
 
 use crate::waiters::{Ended, Waiters};
-use crossbeam_utils::sync::{EventCount, Key};
+use crossbeam_utils::sync::Key;
 use std::alloc::Global;
+use turn_lock::Bells;
 use vt_base::{CALLERS, CallerNo, NoMemory};
 
 /// A wake-up for each caller: a caller whose ticket is open sleeps until its own comes.
 #[derive(Drop)]
 pub(crate) struct WakeUps {
-    each: Vec<EventCount>,
-    ghost all: { vec_len each ≡ 68 },
+    bells: Bells<CALLERS>,
 }
 
 impl WakeUps {
     pub(crate) fn new(alloc: Global) -> Result<WakeUps, NoMemory> {
         Ok(WakeUps {
-            each: all_wake_ups(alloc)?,
+            bells: Bells::hang(alloc)?,
         })
     }
 
     /// A wait of this caller, which ends at its next wake-up from now on.
     pub(crate) fn prepare_wait(&self, caller: CallerNo) -> Key<'_> {
-        self.of(caller).prepare_wait()
+        self.bells.announced(u64::from(caller.get()))
     }
 
     /// Wakes the callers whose tickets were ended, and returns those that [`WakeUps::ring`] woke.
@@ -50,7 +50,7 @@ impl WakeUps {
         if !callers.has(caller) {
             return woken;
         }
-        self.of(caller).notify_all();
+        let _ = self.bells.ring(u64::from(caller.get()));
         woken.with(caller)
     }
 
@@ -60,23 +60,9 @@ impl WakeUps {
     {
         let mut woken = Waiters::none();
         for caller in CallerNo::processes() {
-            self.of(caller).notify_all();
+            let _ = self.bells.ring(u64::from(caller.get()));
             woken = woken.with(caller);
         }
         woken
     }
-
-    fn of(&self, caller: CallerNo) -> &EventCount {
-        &self.each[usize::from(caller.get())]
-    }
-}
-
-fn all_wake_ups(alloc: Global) -> Result<Vec<EventCount>, NoMemory>
-    ensures { IfOk result (λ each. vec_len each ≡ 68) }
-{
-    let mut each = Vec::with_capacity(alloc, CALLERS)?;
-    for _caller in 0..CALLERS {
-        each.push(EventCount::new())?;
-    }
-    Ok(each)
 }

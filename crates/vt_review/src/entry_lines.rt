@@ -8,10 +8,10 @@ ghost use Rattle.vt_review.specs.Lines.{ear_lines, words_of};
 ghost use Rattle.vt_switch.specs.Moments.{hops};
 
 use crate::lines::{ROW, add_lines, add_row_line};
+use crate::screens::Rows;
 use crate::{Ear, Listener, Notice};
 use std::alloc::Global;
 use vt_base::{Bytes, ConsoleNo, NoMemory};
-use vt_grid::Grid;
 use vt_world::Mark;
 
 /// The kind of a notice that the display came to a console.
@@ -60,25 +60,26 @@ pub(crate) fn tell_bell<F: Listener>(
     Ok(())
 }
 
-/// Adds the lines for row `y` of the console's screen, with these words before the row's number.
+/// Adds the lines for row `y` of the console's screen after the entry, with these words before the row's number.
 pub(crate) fn tell_row<F: Listener>(
     alloc: Global,
     text: &mut Bytes,
     ears: &[Ear<F>],
-    e: u32,
-    console: ConsoleNo,
+    rows: &Rows<'_>,
     words: &[u8],
-    screen: &Grid,
     y: u8,
 ) -> Result<(), NoMemory>
-    requires row { y < screen.now.rows }
-    requires words { words.now ≡ words_of e ROW console }
+    requires row { y < rows.now.after.now.rows }
+    requires words { words.now ≡ words_of rows.now.place ROW rows.now.console }
     ensures { OnOk result (text.new.bytes
-        ≡ text.old.bytes ++ ear_lines 0 e ears.now (row_told console y (row_text (row_at screen.now y)))) }
+        ≡ text.old.bytes
+        ++ ear_lines 0 rows.now.place ears.now
+        (row_told rows.now.console y (row_text (row_at rows.now.after.now y)))) }
 {
+    let console = rows.console;
     for a in 0..ears.len() {
         if ears[a].ask(Notice { kind: ROW, console }) {
-            add_row_line(alloc, text, a, words, screen, y)?;
+            add_row_line(alloc, text, a, words, rows.after, y)?;
         }
     }
     Ok(())

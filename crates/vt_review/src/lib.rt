@@ -1,6 +1,7 @@
 //! The review of a journal: stored listeners get a line for each switch, bell and new row that they hear.
 #![tactic(auto)]
 
+mod change;
 mod changes;
 mod ear;
 mod ear_table;

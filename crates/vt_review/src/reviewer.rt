@@ -6,9 +6,10 @@ ghost use Rattle.vt_review.specs.Lines.{ear_lines};
 ghost use Rattle.vt_review.specs.Seen.{IsLeft, OthersAreLeft};
 ghost use Rattle.vt_world.specs.Terminals.{terminal_at};
 
+use crate::change::Change;
 use crate::changes::changed_rows;
 use crate::entry_lines::{tell_bell, tell_hops};
-use crate::screens::tell_rows;
+use crate::screens::{Rows, tell_rows};
 use crate::touching::touched;
 use crate::{Ear, Listener};
 use std::alloc::Global;
@@ -65,38 +66,32 @@ impl<F: Listener> Witness for Reviewer<'_, F> {
         after: &World,
     ) -> Result<(), NoMemory> {
         legal_grows();
-        tell_entry(
-            alloc,
-            &mut self.text,
-            self.ears,
+        let change = Change {
             place,
-            &self.behind,
+            before: &self.behind,
             after,
             entry,
-        )?;
+        };
+        tell_entry(alloc, &mut self.text, self.ears, change)?;
         let _answer = self.behind.call(alloc, entry.caller, &entry.event)?;
         Ok(())
     }
 }
 
-// Adds the lines of entry `e`, with the machine before and after it.
+// Adds the lines of an entry.
 fn tell_entry<F: Listener>(
     alloc: Global,
     text: &mut Bytes,
     ears: &[Ear<F>],
-    e: u32,
-    before: &World,
-    after: &World,
-    entry: &Entry,
+    change: Change<'_>,
 ) -> Result<(), NoMemory>
-    requires { after.now ≡ left_by before.now entry.now }
     ensures { OnOk result (text.new.bytes
-        ≡ text.old.bytes ++ entry_lines ears.now e before.now after.now) }
+        ≡ text.old.bytes ++ entry_lines ears.now change.entry.place change.entry.before.now change.entry.after.now) }
 {
     terminals_stay();
-    match touched(before, entry.caller, &entry.event) {
-        Some(console) => tell_touched(alloc, text, ears, e, before, after, console, entry),
-        None => tell_untouched(alloc, text, ears, e, before, after),
+    match touched(change.before, change.entry.caller, &change.entry.event) {
+        Some(console) => tell_touched(alloc, text, ears, change, console),
+        None => tell_untouched(alloc, text, ears, change),
     }
 }
 
@@ -105,26 +100,23 @@ fn tell_touched<F: Listener>(
     alloc: Global,
     text: &mut Bytes,
     ears: &[Ear<F>],
-    e: u32,
-    before: &World,
-    after: &World,
+    change: Change<'_>,
     console: ConsoleNo,
-    entry: &Entry,
 ) -> Result<(), NoMemory>
-    requires left { after.now ≡ left_by before.now entry.now }
-    requires others { OthersAreLeft console before.now after.now }
+    requires { OthersAreLeft console change.before.now change.after.now }
     ensures { OnOk result (text.new.bytes
-        ≡ text.old.bytes ++ entry_lines ears.now e before.now after.now) }
+        ≡ text.old.bytes ++ entry_lines ears.now change.entry.place change.entry.before.now change.entry.after.now) }
 {
     console.stays_in_range();
-    tell_hops(alloc, text, ears, e, after.trace())?;
-    let rung = after.bells(console);
-    tell_bell(alloc, text, ears, e, console, before.bells(console), rung)?;
-    let front = after.display().get();
+    let was = change.before.bells(console);
+    let rung = change.after.bells(console);
+    tell_hops(alloc, text, ears, change.place, change.after.trace())?;
+    tell_bell(alloc, text, ears, change.place, console, was, rung)?;
+    let front = change.after.display().get();
     if front != console.get() {
         return Ok(());
     }
-    tell_screen(alloc, text, ears, e, before, after, console, entry)?;
+    tell_screen(alloc, text, ears, change, console)?;
     Ok(())
 }
 
@@ -133,39 +125,40 @@ fn tell_screen<F: Listener>(
     alloc: Global,
     text: &mut Bytes,
     ears: &[Ear<F>],
-    e: u32,
-    before: &World,
-    after: &World,
+    change: Change<'_>,
     console: ConsoleNo,
-    entry: &Entry,
 ) -> Result<(), NoMemory>
-    requires { after.now ≡ left_by before.now entry.now }
     ensures { OnOk result (text.new.bytes
         ≡ text.old.bytes
-        ++ flat_map (ear_lines 0 e ears.now) (rows_told before.now after.now console)) }
+        ++ flat_map (ear_lines 0 change.entry.place ears.now)
+        (rows_told change.entry.before.now change.entry.after.now console)) }
 {
-    let Some(screen) = after.screen(console) else {
+    let Some(screen) = change.after.screen(console) else {
         return Ok(());
     };
     let grid = screen.grid();
     grid.stays_full();
-    match before.screen(console) {
+    match change.before.screen(console) {
         Some(old) => {
             old.grid().stays_full();
-            let (first, last) = changed_rows(old, grid, &entry.event);
-            tell_rows(
-                alloc,
-                text,
-                ears,
-                e,
+            let (first, last) = changed_rows(old, grid, &change.entry.event);
+            let rows = Rows {
+                place: change.place,
                 console,
-                Some(old.grid()),
-                grid,
-                first,
-                last,
-            )
+                before: Some(old.grid()),
+                after: grid,
+            };
+            tell_rows(alloc, text, ears, &rows, first, last)
         }
-        None => tell_rows(alloc, text, ears, e, console, None, grid, 0, u8::MAX),
+        None => {
+            let rows = Rows {
+                place: change.place,
+                console,
+                before: None,
+                after: grid,
+            };
+            tell_rows(alloc, text, ears, &rows, 0, u8::MAX)
+        }
     }
 }
 
@@ -174,18 +167,14 @@ fn tell_untouched<F: Listener>(
     alloc: Global,
     text: &mut Bytes,
     ears: &[Ear<F>],
-    e: u32,
-    before: &World,
-    after: &World,
+    change: Change<'_>,
 ) -> Result<(), NoMemory>
     requires { (n : ℕ) → 1 ≤ n → n ≤ 63
-        → IsLeft (terminal_at before.now.terminals n) (terminal_at after.now.terminals n) }
+        → IsLeft (terminal_at change.before.now.terminals n) (terminal_at change.after.now.terminals n) }
     ensures { OnOk result (text.new.bytes
-        ≡ text.old.bytes ++ entry_lines ears.now e before.now after.now) }
+        ≡ text.old.bytes ++ entry_lines ears.now change.entry.place change.entry.before.now change.entry.after.now) }
 {
-    let _ = before;
-    after.display().stays_in_range();
-    let trace = after.trace();
-    tell_hops(alloc, text, ears, e, trace)?;
+    change.after.display().stays_in_range();
+    tell_hops(alloc, text, ears, change.place, change.after.trace())?;
     Ok(())
 }

@@ -19,31 +19,37 @@ use vt_grid::Grid;
 /// them.
 const FEW_CELLS: u8 = 8;
 
-/// Adds the lines for the rows of the console's screen that aren't rows of the screen `before`. Only the rows
-/// from `first` to `last` may be.
+/// The screens of a console before and after the entry at a place; none before if the console wasn't allocated.
+#[derive(Clone, Copy)]
+pub(crate) struct Rows<'a> {
+    pub place: u32,
+    pub console: ConsoleNo,
+    pub before: Option<&'a Grid>,
+    pub after: &'a Grid,
+}
+
+/// Adds the lines for the rows of the console's screen that aren't rows of the screen before. Only the rows from
+/// `first` to `last` may be.
 pub(crate) fn tell_rows<F: Listener>(
     alloc: Global,
     text: &mut Bytes,
     ears: &[Ear<F>],
-    e: u32,
-    console: ConsoleNo,
-    before: Option<&Grid>,
-    after: &Grid,
+    rows: &Rows<'_>,
     first: u8,
     last: u8,
 ) -> Result<(), NoMemory>
-    requires { OthersAreOld first last (texts_of (option_copied before)) after.now }
+    requires { OthersAreOld first last (texts_of (option_copied rows.now.before)) rows.now.after.now }
     ensures { OnOk result (text.new.bytes
         ≡ text.old.bytes
-        ++ flat_map (ear_lines 0 e ears.now)
-        (new_rows console (texts_of (option_copied before.entry)) 0 (map row_text after.now.cells))) }
+        ++ flat_map (ear_lines 0 rows.now.place ears.now)
+        (new_rows rows.now.console (texts_of (option_copied rows.now.before)) 0
+        (map row_text rows.now.after.now.cells))) }
 {
-    after.stays_full();
-    let words = row_words(alloc, e, console)?;
+    rows.after.stays_full();
+    let words = row_words(alloc, rows.place, rows.console)?;
     let mut most = if last == u8::MAX { 0 } else { u8::MAX };
-    for y in first..end_of(last, after.size().rows) {
-        let words = words.as_slice();
-        let new = tell_if_new(alloc, text, ears, e, console, words, before, after, y, most)?;
+    for y in first..end_of(last, rows.after.size().rows) {
+        let new = tell_if_new(alloc, text, ears, rows, words.as_slice(), y, most)?;
         most = if new { FEW_CELLS } else { 0 };
     }
     Ok(())
@@ -54,25 +60,23 @@ fn tell_if_new<F: Listener>(
     alloc: Global,
     text: &mut Bytes,
     ears: &[Ear<F>],
-    e: u32,
-    console: ConsoleNo,
+    rows: &Rows<'_>,
     words: &[u8],
-    before: Option<&Grid>,
-    after: &Grid,
     y: u8,
     most: u8,
 ) -> Result<bool, NoMemory>
-    requires row { y < after.now.rows }
-    requires words { words.now ≡ words_of e ROW console }
+    requires row { y < rows.now.after.now.rows }
+    requires words { words.now ≡ words_of rows.now.place ROW rows.now.console }
     ensures { OnOk result (text.new.bytes
         ≡ text.old.bytes
-        ++ flat_map (ear_lines 0 e ears.now)
-        (row_notice console (texts_of (option_copied before.entry)) y (row_text (row_at after.now y)))) }
+        ++ flat_map (ear_lines 0 rows.now.place ears.now)
+        (row_notice rows.now.console (texts_of (option_copied rows.now.before)) y
+        (row_text (row_at rows.now.after.now y)))) }
 {
-    if !is_new(alloc, before, after, y, most)? {
+    if !is_new(alloc, rows.before, rows.after, y, most)? {
         return Ok(false);
     }
-    tell_row(alloc, text, ears, e, console, words, after, y)?;
+    tell_row(alloc, text, ears, rows, words, y)?;
     Ok(true)
 }
 

@@ -8,5 +8,5 @@ use Rattle.vt_review.proofs.entry_lines.tell_row.Given as goal
 abbrev pub invariant-loop-a : goal.invariant-loop-a
 invariant-loop-a g l =
     l.text.bytes
-    ++ ear_lines l.a l.e (drop l.a l.ears) (row_told l.console l.y (row_text (row_at l.screen l.y)))
-    ≡ l.fn.text.bytes ++ ear_lines 0 l.e l.ears (row_told l.console l.y (row_text (row_at l.screen l.y)))
+    ++ ear_lines l.a l.rows.place (drop l.a l.ears) (row_told l.rows.console l.y (row_text (row_at l.rows.after.now l.y)))
+    ≡ l.fn.text.bytes ++ ear_lines 0 l.rows.place l.ears (row_told l.rows.console l.y (row_text (row_at l.rows.after.now l.y)))

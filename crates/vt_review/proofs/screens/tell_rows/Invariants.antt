@@ -9,8 +9,8 @@ use Rattle.vt_review.proofs.screens.tell_rows.Given as goal
 abbrev pub invariant-loop-y : goal.invariant-loop-y
 invariant-loop-y g l =
     l.text.bytes
-    ++ flat_map (ear_lines 0 l.e l.ears)
-    (new_rows l.console (texts_of (option_copied l.before)) l.y (map row_text (drop l.y l.after.cells)))
+    ++ flat_map (ear_lines 0 l.rows.place l.ears)
+    (new_rows l.rows.console (texts_of (option_copied l.rows.before)) l.y (map row_text (drop l.y l.rows.after.now.cells)))
     ≡ l.fn.text.bytes
-    ++ flat_map (ear_lines 0 l.e l.ears)
-    (new_rows l.console (texts_of (option_copied l.before)) 0 (map row_text l.after.cells))
+    ++ flat_map (ear_lines 0 l.rows.place l.ears)
+    (new_rows l.rows.console (texts_of (option_copied l.rows.before)) 0 (map row_text l.rows.after.now.cells))

@@ -3,10 +3,10 @@ use Rattle.vt_review.proofs.Behind.{is_left, moves, reviewed_more}
 use Rattle.vt_world.specs.Step.{Outcome}
 use Rattle.vt_review.proofs.reviewer.ReviewerWitness.see.Goals as goal
 
-pub tell_entry-requires : goal.tell_entry-requires
-tell_entry-requires g c =
-    is_left c.requires.start c.args.self.now.behind c.args.after.now c.requires.before c.args.place
-    c.args.entry.now c.requires.seen.1.behind_is c.requires.next
+pub invariant_of-change : goal.invariant_of-change
+invariant_of-change g c =
+    record { left = is_left c.requires.start c.args.self.now.behind c.args.after.now c.requires.before c.args.place
+    c.args.entry.now c.requires.seen.1.behind_is c.requires.next }
 
 pub returns-clause-seen : goal.returns-clause-seen
 returns-clause-seen g c = λ first start before was next. (
