@@ -43,8 +43,9 @@ from unproved.module import Module  # noqa: E402
 
 STARTED = time.monotonic()
 # How long the sources of all parts are read, until a build has measured it.
-READING = 30.0
-SLOWEST = ("vt", "watch", "cases", "c")
+READING = 50.0
+# The parts by how long the compiler takes for each, the longest first.
+SLOWEST = ("explore", "vt", "cases", "watch", "c", "redraw", "picture")
 END = "these parts are not proved; `rt run` in crates/vt proves and builds vt (docs/guide/install.md has the rest)"
 
 
@@ -145,8 +146,8 @@ def built_parts(kit, parts, given, kept, uses):
 
         pool = concurrent.futures.ThreadPoolExecutor(given.jobs)
         try:
-            # (the slowest first, so that none of them is left for the end)
-            tasks = [pool.submit(finish, part) for part in sorted(parts, key=lambda it: (*SLOWEST, it).index(it))]
+            # (so that none that takes long is left for the end)
+            tasks = [pool.submit(finish, part) for part in sorted(parts, key=SLOWEST.index)]
             for task in concurrent.futures.as_completed(tasks):
                 yield task.result()
         finally:

@@ -27,6 +27,7 @@ import kbd_text
 import keymap
 import vt_names
 from kbd_text import KeymapError
+from package import called
 from programs import Missing, find
 
 SECONDS = 120
@@ -287,7 +288,7 @@ def words():
     parser.add_argument(
         "files", metavar="FILE", nargs="+", help="a keymap, its name in kbd's folders, or - for standard input"
     )
-    parser.add_argument("--vt", metavar="PROGRAM", help="the program vt; the one that tools/programs.py finds without it")
+    parser.add_argument("--vt", metavar="PROGRAM", help="the program vt; without it that of VT, of the clone or of PATH")
     parser.add_argument("--back", action="store_true", help="compare the dump of the converted keymap")
     parser.add_argument("--charset", default="", metavar="C")
     parser.add_argument("--search", action="append", default=[], metavar="DIR")
@@ -300,7 +301,7 @@ def main():
         asked.vt = find("vt", asked.vt)
         actions = same_actions(asked.vt)
     except (Missing, ProgramError) as error:
-        sys.stderr.write(f"compare_keymap.py: {error}\n")
+        sys.stderr.write(f"{called()}: {error}\n")
         return 3
     found = set()
     for name in asked.files:

@@ -19,11 +19,14 @@ import sys
 from dataclasses import replace
 
 sys.dont_write_bytecode = True
+
+from package import called  # noqa: E402: after the line that keeps tools/ clean
+
 if sys.version_info < (3, 10):
-    print("engines: Python 3.10 or later was wanted", file=sys.stderr)
+    print(f"{called()}: Python 3.10 or later was wanted", file=sys.stderr)
     sys.exit(2)
 
-from programs import TOP, Missing, find  # noqa: E402: after the line that keeps tools/ clean
+from programs import TOP, Missing, find  # noqa: E402: needs this Python
 
 sys.path.insert(1, str(TOP / "dev/engines"))
 from conformance import compare, cutdown, engine_list, page  # noqa: E402: after its folder
@@ -92,7 +95,7 @@ def run(given):
 def main():
     words = argparse.ArgumentParser(description=__doc__.split("\n\n")[0])
     words.add_argument("engine", nargs="*", metavar="ENGINE", help="vt, libvt, pyte, libvterm, tmux or linux")
-    words.add_argument("--vt", metavar="PROGRAM", help="the program vt; the one that tools/programs.py finds without it")
+    words.add_argument("--vt", metavar="PROGRAM", help="the program vt; without it that of VT, of the clone or of PATH")
     words.add_argument("--command", action="append", default=[], metavar="'PROGRAM ..'", help="an engine of your own")
     words.add_argument("--device", type=int, metavar="N", help="console N of this machine")
     words.add_argument("--kernel", metavar="FILE", help="a Linux kernel, run in qemu")
@@ -112,7 +115,7 @@ def main():
         os.dup2(os.open(os.devnull, os.O_WRONLY), sys.stdout.fileno())
         return 2
     except (Fault, Missing, OSError) as fault:
-        print(f"engines: {fault}", file=sys.stderr)
+        print(f"{called()}: {fault}", file=sys.stderr)
         return 2
 
 

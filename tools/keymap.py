@@ -23,6 +23,7 @@ import unicodedata
 import kbd_tables
 import kbd_text
 from kbd_text import KeymapError
+from package import called
 from vt_names import ACTIONS, NAMES
 
 WIDTH = 110
@@ -336,7 +337,7 @@ def totals(converted):
     strings = sum(loss.entry[0] == "string" for loss in converted.losses)
     for count, what in [(strings, "strings"), (len(converted.losses) - len(entries) - strings, "compose pairs")]:
         parts += [f"{count} {what if count > 1 else what[:-1]}"] if count else []
-    return [f"keymap.py: {'; '.join(parts)}"] if parts else []
+    return [f"{called()}: {'; '.join(parts)}"] if parts else []
 
 
 def report(converted):
@@ -377,7 +378,7 @@ def main():
         return 1
     except OSError as error:
         os.dup2(os.open(os.devnull, os.O_WRONLY), 1)
-        sys.stderr.write(f"keymap.py: can't read or write: {error}\n")
+        sys.stderr.write(f"{called()}: can't read or write: {error}\n")
         return 1
     return 0
 

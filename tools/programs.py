@@ -47,6 +47,11 @@ def installed_name(name):
     return name if name == "vt" else f"vt-{name}"
 
 
+def tool_name(name):
+    """How one of the users' tools is called: by its file in the clone, or by its installed name."""
+    return f"tools/{name}.py" if is_clone() else f"vt-{name.replace('_', '-')}"
+
+
 def proved_path(name):
     """The place of the proved program in the clone."""
     return TOP / "crates" / CRATES[name] / "out" / CRATES[name]

@@ -21,7 +21,8 @@ import sys
 
 sys.dont_write_bytecode = True
 
-from programs import Missing, find  # noqa: E402: after the line that keeps tools/ clean
+from package import called  # noqa: E402: after the line that keeps tools/ clean
+from programs import Missing, find  # noqa: E402
 from timeline_drawing import Drawing  # noqa: E402
 from timeline_page import page  # noqa: E402
 from timeline_picture import picture  # noqa: E402
@@ -55,7 +56,7 @@ def drawn(args, title, entries, final):
 
 
 def main():
-    parser = Parser(prog="timeline.py", description="Draws what `watch json` prints as a page of HTML.")
+    parser = Parser(description="Draws what `watch json` prints as a page of HTML.")
     parser.add_argument("json", nargs="?", default="-", help="the JSON; standard input without it, or for -")
     parser.add_argument("-o", "--output", help="where the page is written; standard output without it")
     parser.add_argument("--title", help="the page's title")
@@ -72,7 +73,7 @@ def main():
         text = drawn(args, args.title or f"Timeline of {name}", entries, final)
         write_file(args.output, text.encode(errors="replace"), 3)
     except Stop as stop:
-        print(f"timeline.py: {stop}", file=sys.stderr)
+        print(f"{called()}: {stop}", file=sys.stderr)
         return stop.status
     return 0
 

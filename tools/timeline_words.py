@@ -1,5 +1,7 @@
 """The sentences of a timeline: what an entry of `watch json` asks, what it is answered, and what it did."""
-from escapes import escaped
+from package import module
+
+escaped = module("escapes").escaped
 
 ERRORS = {
     "EPERM": "the caller has no right to this console",

@@ -19,6 +19,7 @@ try:
 except ImportError:
     tomllib = None
 
+from package import called
 from programs import find
 from tool_files import Stop, read_file, write_file
 
@@ -338,13 +339,13 @@ def main():
     )
     parser.add_argument("session", help="the session, or - for standard input")
     parser.add_argument("-o", "--output", help="where the session is written; standard output without it")
-    parser.add_argument("--vt", metavar="PATH", help="the program vt; the one that tools/programs.py finds without it")
+    parser.add_argument("--vt", metavar="PATH", help="the program vt; without it that of VT, of the clone or of PATH")
     args = parser.parse_args()
     try:
         given = sys.stdin.buffer.read() if args.session == "-" else read_file(args.session, 3)
         write_file(args.output, numbered(str(find("vt", args.vt)), given), 3)
     except Stop as stop:
-        print(f"turns.py: {stop}", file=sys.stderr)
+        print(f"{called()}: {stop}", file=sys.stderr)
         return stop.status
     return 0
 

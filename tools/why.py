@@ -13,15 +13,18 @@ import argparse
 import re
 import sys
 
+from package import called
+
 try:
     import tomllib
 except ModuleNotFoundError:
-    sys.exit("why.py: needs Python 3.11 or later, which has tomllib")
+    sys.exit(f"{called()}: needs Python 3.11 or later, which has tomllib")
 
 import kbd_tables
 import keymap
 import why_sessions
 from kbd_text import KeymapError, near
+from programs import tool_name
 from vt_names import ACTIONS
 
 KEYMAP_CODES = {
@@ -31,7 +34,7 @@ KEYMAP_CODES = {
     4: "a key line without symbols, or with more symbols than the keymaps lines name tables",
     5: "keymaps after a line with keycode: put all keymaps lines in front",
     6: "a bad quoted text or character, or bytes that aren't UTF-8",
-    7: "a text to include that isn't given: vt opens no files, and tools/keymap.py puts included files in line",
+    7: f"a text to include that isn't given: vt opens no files, and {tool_name('keymap')} puts included files in line",
     8: "texts are included more than eight deep",
     9: "something stands after what the line may have",
     10: "more than 256 compose pairs",
@@ -286,7 +289,7 @@ def explained(program, path, text, err):
 
 def main():
     parser = argparse.ArgumentParser(
-        usage="vt COMMAND < FILE 2>&1 > /dev/null | tools/why.py [--vt PROGRAM] FILE",
+        usage=f"vt COMMAND < FILE 2>&1 > /dev/null | {called()} [--vt PROGRAM] FILE",
         description="Explains the line that vt writes on standard error.",
     )
     parser.add_argument("file", metavar="FILE", help="the input that vt read")
@@ -302,7 +305,7 @@ def main():
         )
         sys.stdout.buffer.flush()
     except (OSError, KeymapError) as error:
-        sys.stderr.write(f"why.py: {error}\n")
+        sys.stderr.write(f"{called()}: {error}\n")
         return 2
     return 0 if lines else 1
 

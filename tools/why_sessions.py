@@ -7,7 +7,7 @@ import re
 import subprocess
 
 from kbd_text import near
-from programs import Missing, find
+from programs import Missing, find, tool_name
 from session_words import CALLS, ERRORS, HOOKS, NOT_IN_SCRIPTS, PROCESS_KEYS, REQUESTS, TOP_KEYS, TYPE_KEYS
 from turns import number_of, token_end, turns_span, with_turns
 from tool_files import Stop
@@ -153,7 +153,7 @@ def about_key(key, known, likely):
 def about_value(key, kind, value):
     """Returns what the value of a key has to be."""
     if key == "turns" and any(isinstance(it, str) for it in value or []):
-        return "Words in turns are for tools/turns.py, which writes the session with numbers."
+        return f"Words in turns are for {tool_name('turns')}, which writes the session with numbers."
     return f"The key {key} has to be {kind}."
 
 

@@ -245,7 +245,7 @@ def hanging():
         yield wanted("a long limit", run(*given, "--seconds", "60")[0], 0)
     for seconds in ("0", "-1", "nan", "9999"):
         status, printed = run("linux", f"--seconds={seconds}")
-        yield wanted(f"--seconds {seconds}", (status, printed.startswith(f"engines: --seconds {seconds}: ")), (2, True))
+        yield wanted(f"--seconds {seconds}", (status, printed.startswith(f"engines.py: --seconds {seconds}: ")), (2, True))
 
 
 def refused():
@@ -257,7 +257,7 @@ def refused():
             path.write_text(json.dumps(WHOLE) + "\n" + json.dumps(made) + "\n", encoding="utf-8")
             status, printed = run("linux", "--corpus", path)
             yield wanted(f"{other}: status", status, 2)
-            yield holds(str(other), printed, f"engines: {path}:2: {message}")
+            yield holds(str(other), printed, f"engines.py: {path}:2: {message}")
 
 
 def machine():
@@ -283,7 +283,7 @@ def machine():
         yield wanted("a machine that ends at once", status, 2)
         yield holds("why", printed, "a kernel that starts kernel_init.c was wanted: died")
     status, printed = run("--kernel", "nosuch")
-    yield wanted("a kernel that isn't there", (status, printed[:16]), (2, "engines: nosuch:"))
+    yield wanted("a kernel that isn't there", (status, printed.startswith("engines.py: nosuch:")), (2, True))
 
 
 def asked(path):

@@ -5,10 +5,11 @@ usage: dev/checks/check_install.py
 
 A small clone is made of the files that an installation needs and of the programs and the library that are built here,
 proved or not. From there tools/install.sh installs into folders of their own; then that clone is removed. Each
-installed program and tool is run with a PATH that has these folders alone, and has to do what its page shows; none
-writes into the folder of the installation. The library is in the folder of LIBDIR. Programs and a library that aren't
-proved are refused without --unproved, and so are bad words. The archive of tools/release.sh has the sums of its files,
-is the same twice, and its programs run where it is unpacked.
+installed program and tool is run with a PATH that has these folders alone, and has to do what its page shows, and
+each tool says the name under which it is installed; none writes into the folder of the installation. The library is
+in the folder of LIBDIR. Programs and a library that aren't proved are refused without --unproved, and so are bad
+words. The archive of tools/release.sh has the sums of its files, is the same twice, and its programs run where it is
+unpacked.
 
 Prints a line for each thing that isn't so and last 'N passed, M failed'. Ends with status 1 if one fails, and with 2 if
 no programs are built.
@@ -195,6 +196,36 @@ def check_engines(check, do, has_library):
     check.holds(status == 0 and "differs" not in err and "recordings" in out, f"vt-engines: {status}, {out}{err}")
 
 
+# For each tool, words that it refuses, and what it is given.
+REFUSED = {
+    "vt-record": (["2", "x", "--", "true"], ""),
+    "vt-expect": (["nosuch.test"], ""),
+    "vt-animation": (["nosuch.cast"], ""),
+    "vt-keymap": (["-"], "keymaps 0-1\nkeycode 30 = a Hex_0\n"),
+    "vt-why": (["nosuch"], ""),
+    "vt-compare-keymap": (["--vt", "nosuch", "a.map"], ""),
+    "vt-turns": (["nosuch.toml"], ""),
+    "vt-timeline": ([], "{"),
+    "vt-engines": (["--kernel", "nosuch"], ""),
+}
+
+
+def check_names(check, do, has_library):
+    """Each tool says its own name in its usage and in its messages, and no name of a file."""
+    for name in user_tools.NAMES:
+        has_words = has_library or name not in ("vt-record", "vt-expect", "vt-animation")
+        status, out, err = do(name, "--help")
+        good = status == 0 and out.startswith("usage: ") and name in out.partition("\n\n")[0] and not err
+        check.holds(good or not has_words, f"{name} --help: {status}, {out}{err}")
+        check.holds(".py" not in out and "-m libvt" not in out, f"{name} --help names a file: {out}")
+        words, given = REFUSED[name]
+        for refused in (words, ["--nosuch"]):
+            _, _, err = do(name, *refused, given=given)
+            last = err.rstrip("\n").rpartition("\n")[2]
+            good = last.startswith(f"{name}: ") and ".py" not in err.replace("tools/build.py", "")
+            check.holds(good, f"{name} {refused}: {err}")
+
+
 class Installed:
     """Runs installed programs in a folder of their own, without any variable of this process."""
 
@@ -260,6 +291,7 @@ def main():
         check_programs(check, do)
         check_terminals(check, do, clone.has_library)
         check_keymap_tools(check, do)
+        check_names(check, do, clone.has_library)
         check_engines(check, do, clone.has_library)
         more = sorted(map(str, set(prefix.rglob("*")) ^ installed))
         check.holds(not more, f"a program writes into its prefix: {more}")

@@ -240,7 +240,7 @@ enum vt_left_out {
 uint8_t vt_screen_left_out(const struct vt_screen *s, uint32_t *parts);
 
 /* vt_screen_redraw of the nearest screen that a text draws: this screen, except the parts that vt_screen_left_out
- * tells. VT_NO_MEMORY, VT_NOTHING, VT_NO_ROOM. */
+ * names. VT_NO_MEMORY, VT_NOTHING, VT_NO_ROOM. */
 uint8_t vt_screen_redraw_near(const struct vt_screen *s, uint8_t *text, size_t room, size_t *length);
 
 /* vt_screen_redraw_changes of that screen. VT_NO_MEMORY, VT_NOTHING, VT_NO_ROOM. */

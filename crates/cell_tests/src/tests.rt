@@ -1,3 +1,4 @@
+//! The mode of UTF-8 that the tests of units and of whole sequences share.
 mod cells;
 mod chars;
 mod checks;

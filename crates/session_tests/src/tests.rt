@@ -1,4 +1,4 @@
-//! Functions that the tests share. Rows are texts and numbers alone. Single journals are tested by the worked
+//! Tests of races and of their certificates. Rows are texts and numbers alone. Single journals are tested by the worked
 //! cases of `cases`.
 mod asking;
 mod certificate;

@@ -1,3 +1,4 @@
+//! Attributes with the bytes that show them, colours folded to sixteen, the palette, and the columns of characters.
 use super::checks::check;
 use vt_cells::Intensity::{Bold, Dim, Normal};
 use vt_cells::{

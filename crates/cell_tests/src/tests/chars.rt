@@ -1,3 +1,4 @@
+//! Bytes of UTF-8 with the answers of their reader, and bytes with their characters in the translation tables.
 use super::checks::check;
 use std::process::Abort;
 use vt_chars::Got::{Bad, BadThen, Char, More};

@@ -1,4 +1,4 @@
-//! Functions that the tests of rows share. A row that fails is printed.
+//! The assertion about a row of a test, which prints the row if it fails.
 use std::fmt::Debug;
 use std::process::Abort;
 use vt_base::NoMemory;

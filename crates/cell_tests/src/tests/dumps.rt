@@ -1,3 +1,4 @@
+//! Rows of a grid as text, as vcs and vcsa, and as code points; characters of each length of UTF-8 in a row.
 use super::checks::check_made;
 use std::alloc::Global;
 use vt_base::{Bytes, NoMemory, Size};

@@ -1,3 +1,4 @@
+//! Scrolls of a region of a grid up and down, with the letters of its rows after each.
 mod calls;
 mod changes;
 mod edit;

@@ -1,3 +1,4 @@
+//! Escape and control sequences that are read at once, up to 256 bytes, and texts that are not.
 use super::UTF8;
 use super::checks::check;
 use std::process::Abort;

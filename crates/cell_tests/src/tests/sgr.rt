@@ -1,3 +1,4 @@
+//! Parameters of SGR (CSI m) with the pen after them: attributes, folded colours, and the translation table.
 use super::cells::attr_of;
 use super::checks::check;
 use vt_cells::Intensity::{Bold, Dim, Normal};

@@ -1,3 +1,4 @@
+//! Texts with the units that they are read as, byte by byte: characters, controls, sequences and strings.
 use super::UTF8;
 use super::checks::check;
 use Told::{

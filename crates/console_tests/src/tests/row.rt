@@ -1,3 +1,4 @@
+//! Rows of a test of a machine: a call with its answer, or a fact to be seen of the machine.
 /// A call of a machine, or a fact to be seen of it.
 #[derive(Clone, Copy)]
 pub(crate) enum Row {

@@ -1,4 +1,4 @@
-//! The shared machine of a test.
+//! The machine of a session that a test shares, and its run after every pass has come back.
 ghost use Rattle.std.specs.Prelude.{◌≡◌, ℕ, false, IfOk};
 ghost use Rattle.vt_world.specs.State.{is_waiting};
 

@@ -1,3 +1,4 @@
+//! Keymap texts compiled to their tables, and whether these have a listing.
 use key_compile::compile;
 use key_tables::KeyTables;
 use key_text::{Includes, KeyError, Line, parse};

@@ -1,4 +1,4 @@
-//! Functions that the tests of keys share.
+//! Keyboards over tables of few entries, and whether a key event has the result that is wanted.
 mod actions;
 mod sent;
 mod sessions;

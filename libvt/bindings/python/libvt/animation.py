@@ -16,20 +16,20 @@ of the form, or a file can't be read or written.
 """
 from __future__ import annotations
 
-import argparse
+import functools
 import math
 import re
 import sys
-from typing import Iterator, NamedTuple, NoReturn
+from typing import Iterator, NamedTuple
 
 from .calls import OutOfRange, Screen
 from .casts import BadCast, Cast, read_cast
+from .command_line import Words, called
 from .expect_values import seconds
 from .expect_values import size as size_of
 from .record import Stop, read_text, write_bytes
 from .terminal import Event
 
-PROGRAM = "animation.py"
 CELL = 8
 OVERLAP = 1
 # An element of a picture, with its place.
@@ -194,16 +194,9 @@ def animation(frames: list[Frame], pause: float, still: float) -> str:
         f"<style>{frames[0].style}{styles}{STILL}</style>\n{drawn}{cursor}</svg>\n")
 
 
-class Words(argparse.ArgumentParser):
-    """The words of the command line; words that aren't of the form end with status 1."""
-
-    def error(self, message: str) -> NoReturn:
-        raise Stop(1, f"{message}; {PROGRAM} --help has the form")
-
-
 def run(words: list[str]) -> int:
     """Draws a recording."""
-    form = Words(prog=PROGRAM, description=__doc__, formatter_class=argparse.RawDescriptionHelpFormatter)
+    form = Words("animation", __doc__ or "", functools.partial(Stop, 1))
     for name, default in (("--at", None), ("--pause", "2"), ("--rate", "20"), ("--still", None)):
         form.add_argument(name, metavar="S", default=default)
     form.add_argument("--size", nargs=2, metavar=("R", "C"))
@@ -235,10 +228,10 @@ def main() -> int:
     try:
         return run(sys.argv[1:])
     except Stop as stop:
-        print(f"{PROGRAM}: {stop}", file=sys.stderr)
+        print(f"{called()}: {stop}", file=sys.stderr)
         return stop.status
     except KeyboardInterrupt:
-        print(f"{PROGRAM}: interrupted", file=sys.stderr)
+        print(f"{called()}: interrupted", file=sys.stderr)
         return 1
 
 

@@ -39,27 +39,17 @@ form, or a file can't be read, and nothing was played.
 """
 from __future__ import annotations
 
-import argparse
 import difflib
 import os
 import pathlib
 import sys
-from typing import NoReturn
 
+from .command_line import Words, called
 from .expect_files import Check, Fault, File, read_test
 from .expect_play import Playing
 from .expect_values import seconds
 from .screen_files import write_text
 from .terminal import Failed
-
-PROGRAM = "expect.py"
-
-
-class Words(argparse.ArgumentParser):
-    """The words of the command line; words that aren't of the form end with status 2."""
-
-    def error(self, message: str) -> NoReturn:
-        raise Fault(f"{message}; {PROGRAM} --help has the form")
 
 
 def print_check(path: str, number: int, check: Check, faults: list[str]) -> None:
@@ -123,7 +113,7 @@ def accept(path: str, changes: dict[int, str]) -> None:
 
 def run(words: list[str]) -> int:
     """Reads all files, plays them, and prints what came of it."""
-    form = Words(prog=PROGRAM, description=__doc__, formatter_class=argparse.RawDescriptionHelpFormatter)
+    form = Words("expect", __doc__ or "", Fault)
     form.add_argument("--accept", action="store_true")
     form.add_argument("--limit", metavar="S", default="10")
     form.add_argument("files", nargs="+", metavar="FILE.test")
@@ -151,13 +141,13 @@ def main() -> int:
     try:
         return run(sys.argv[1:])
     except Fault as fault:
-        print(f"{PROGRAM}: {fault}", file=sys.stderr)
+        print(f"{called()}: {fault}", file=sys.stderr)
         return 2
     except BrokenPipeError:
         sys.stdout = open(os.devnull, "w", encoding="utf-8")
         return 1
     except KeyboardInterrupt:
-        print(f"{PROGRAM}: interrupted", file=sys.stderr)
+        print(f"{called()}: interrupted", file=sys.stderr)
         return 1
 
 

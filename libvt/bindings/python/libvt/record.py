@@ -28,17 +28,17 @@ from __future__ import annotations
 
 import argparse
 import contextlib
+import functools
 import pathlib
 import sys
-from typing import Any, Callable, NoReturn
+from typing import Any, Callable
 
 from .casts import BadCast, cast_of, read_cast
+from .command_line import Words, called
 from .escapes import unescaped
 from .expect_values import as_text, seconds, size
 from .keys import pieces_of
 from .terminal import Failed, Terminal
-
-PROGRAM = "record.py"
 
 
 class Stop(Exception):
@@ -47,13 +47,6 @@ class Stop(Exception):
     def __init__(self, status: int, message: str) -> None:
         super().__init__(message)
         self.status = status
-
-
-class Words(argparse.ArgumentParser):
-    """The words of the command line; words that aren't of the form end with status 1."""
-
-    def error(self, message: str) -> NoReturn:
-        raise Stop(1, f"{message}; {PROGRAM} --help has the form")
 
 
 def reason(fault: Exception) -> str:
@@ -181,7 +174,7 @@ def record(given: argparse.Namespace, command: list[str]) -> int:
     if status is not None and status < 0:
         raise Stop(3, f"{command[0]}: was ended by signal {-status}")
     if status:
-        print(f"{PROGRAM}: {command[0]} ended with status {status}", file=sys.stderr)
+        print(f"{called()}: {command[0]} ended with status {status}", file=sys.stderr)
     return 0
 
 
@@ -200,7 +193,7 @@ def stream_of(path: str) -> bytes:
 def read_words(words: list[str]) -> tuple[argparse.Namespace, list[str]]:
     """What the words ask for, and the command after `--`."""
     cut = words.index("--") if "--" in words else len(words)
-    form = Words(prog=PROGRAM, description=__doc__, formatter_class=argparse.RawDescriptionHelpFormatter)
+    form = Words("record", __doc__ or "", functools.partial(Stop, 1))
     form.add_argument("rows", nargs="?")
     form.add_argument("cols", nargs="?")
     for name in ("--keys", "--out", "--cast", "--from-cast"):
@@ -231,10 +224,10 @@ def main() -> int:
             return 0
         return record(given, command)
     except Stop as stop:
-        print(f"{PROGRAM}: {stop}", file=sys.stderr)
+        print(f"{called()}: {stop}", file=sys.stderr)
         return stop.status
     except KeyboardInterrupt:
-        print(f"{PROGRAM}: interrupted", file=sys.stderr)
+        print(f"{called()}: interrupted", file=sys.stderr)
         return 1
 
 

@@ -1,3 +1,4 @@
+//! Halves of wide characters: where a grid parts them, what is drawn over one, and what a new size leaves of them.
 use super::calls;
 use super::edit::Edit;
 use crate::tests::checks::check_made;

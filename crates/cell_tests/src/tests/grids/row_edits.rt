@@ -1,3 +1,4 @@
+//! Edits of one row (bytes, insert, delete, erase), and new sizes of a grid, with the rows after each.
 use super::edit::Edit;
 use super::edit::Edit::{Bytes, Delete, Erase, Insert};
 use super::{calls, letter};

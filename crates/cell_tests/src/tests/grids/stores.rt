@@ -1,3 +1,4 @@
+//! A row store: cells are written, rows are turned, rotated and cut, and the stored rows are compared.
 ghost use Rattle.std.specs.Prelude.{◌≡◌, ◌<◌};
 
 use crate::tests::checks::check_made;
