@@ -1,4 +1,5 @@
-//! The words of every call and every answer, by the table in docs/reference/journal.md.
+//! The words of every call and every answer, each in the journal of one call that is printed and read, by the table in
+//! docs/reference/journal.md.
 use super::answer::Answer;
 use crate::tests::checks::check_made;
 use std::alloc::Global;

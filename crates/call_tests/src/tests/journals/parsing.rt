@@ -1,4 +1,4 @@
-//! Journal texts and their faults, by the rules of docs/reference/journal.md.
+//! Journal texts of both versions, whole and cut at each byte, with the fault of each, by docs/reference/journal.md.
 use crate::tests::checks::{check, check_made};
 use std::alloc::Global;
 use vt_base::NoMemory;
