@@ -1,21 +1,22 @@
 -- Texts by which no row falls out at the top of the screen.
-use Rattle.std.proofs.Common.{◌≡◌, ◌==◌, ◌&&◌, ◌||◌, ◌-◌, ◌≤◌, ◌<◌, ◌≢◌, arith, length, zero, ℕ, Bool, true, false, suc, ◌+◌, ◌*◌, List, [], ◌∷◌, take, refl, sym, ap, subst, ◌∙◌, min, not, nat_le, nat_lt, leb-true, Some, if◌then◌else◌}
+use Rattle.std.proofs.Common.{◌≡◌, ◌==◌, ◌&&◌, ◌||◌, ◌-◌, ◌≤◌, ◌<◌, ◌≢◌, arith, length, zero, ℕ, Bool, true, false, suc, ◌+◌, ◌*◌, List, [], ◌∷◌, take, refl, sym, ap, subst, ◌∙◌, min, not, nat_le, nat_lt, leb-true, length-append, Some, if◌then◌else◌}
 use Rattle.std.proofs.lemmas.Bool.{and_left, and_parts, and_right, cond-true, cond-false, or_from}
 use Rattle.std.proofs.lemmas.Bool.Decides.{nat_tests}
 use Rattle.std.proofs.lemmas.List.{length-take}
 use Rattle.std.specs.List.{prefix_len}
 use Rattle.vt_canvas.specs.Falling.{fallen, feeds_line, goes_to_next_row, is_at_end, loses_row}
-use Rattle.vt_canvas.specs.Printing.{after_wrap, codes_drawn, lacks_room, print, print_character, with_cells_at_cursor, with_character, with_gap}
+use Rattle.vt_canvas.specs.Printing.{after_wrap, codes_drawn, lacks_room, print, print_character, room, with_cells_at_cursor, with_character, with_gap}
 use Rattle.vt_canvas.specs.Screen.{Screen, mode_of}
 use Rattle.vt_cells.specs.Width.{AtMostTwo, LowTakeOne, columns}
+use Rattle.vt_chars.specs.declared.decoded.Decoded.TheVariants.{Character, Malformed}
 use Rattle.vt_grid.specs.Grid.{row_at}
 use Rattle.vt_screen.proofs.Printed.{AllPrintable, empty_is, prefix_printable, print_mode, take_short}
 use Rattle.vt_screen.proofs.Sequences.{come_run}
 use Rattle.vt_screen.specs.Falling.{ScreenAndRows, row_effects, rows_of_run, then_fallen}
-use Rattle.vt_units.proofs.Wholes.{all_shown, characters_run}
+use Rattle.vt_units.proofs.Wholes.{all_shown, characters_run, well}
 use Rattle.vt_units.specs.Answer.{rest_after}
 use Rattle.vt_units.specs.Bytes.{decodes, is_printable}
-use Rattle.vt_units.specs.Characters.{AreTextsOf}
+use Rattle.vt_units.specs.Characters.{AreTextsOf, IsTextOf}
 use Rattle.vt_units.specs.Laws.{IsUnitOf, PrintablesAreCharacters, SequencesAreUnits}
 use Rattle.vt_units.specs.Reading.{is_empty}
 use Rattle.vt_units.specs.Rest.{Rest, fresh}
@@ -124,9 +125,39 @@ abbrev pub columns_of_all : List ℕ → ℕ
 columns_of_all [] = 0
 columns_of_all (code ∷ codes) = columns code + columns_of_all codes
 
-pub few_columns : AtMostTwo → (codes : List ℕ) → columns_of_all codes ≤ 2 * length codes
-few_columns most [] = omega arith
-few_columns most (code ∷ codes) = omega (arith, most code, few_columns most codes)
+-- a character takes at most as many columns as its text has bytes
+text_columns : LowTakeOne → AtMostTwo → (first : List ℕ) (code : ℕ) → IsTextOf first code → columns code ≤ length first
+text_columns low most [] code is = absurd (let e : ⊥ = (let clash : Malformed ≡ Character code = is.whole in cc) in e)
+text_columns low most (a ∷ []) code is =
+    let whole = well (a ∷ []) code is.whole in
+    let under : code < 0x300 = omega (arith, leb-true a 0x7F whole.0, whole.1) in
+    let other : code ≢ 0xAD = omega (arith, leb-true a 0x7F whole.0, whole.1) in
+    omega (arith, low code under other)
+text_columns low most (a ∷ b ∷ more) code is = omega (arith, most code)
+
+pub texts_columns : LowTakeOne → AtMostTwo → (text codes : List ℕ) → AreTextsOf text codes
+    → columns_of_all codes ≤ length text
+texts_columns low most text [] are = omega arith
+texts_columns low most text (code ∷ codes) (first, more, joined, one, others) =
+    omega (arith, ap (λ (t : List ℕ). length t) joined, length-append first more,
+    text_columns low most first code one, texts_columns low most more codes others)
+
+-- so many columns fit as the cursor's row has left
+pub room_fits : (n : ℕ) (s : Screen) → n ≤ room s → Fits n s
+room_fits n s few some = by s.state.wrap s.state.insert refl refl
+  where
+    by : (wrap insert : Bool) → s.state.wrap ≡ wrap → s.state.insert ≡ insert
+        → (s.state.wrap ≡ false) × (s.state.insert ≡ false) × (s.state.x + n ≤ s.grid.cols)
+    by true insert wrapped opened =
+        let none : room s ≡ 0 = cond-true _ _ _ (ap (λ (t : Bool). t || s.state.insert) wrapped) in
+        absurd (omega (arith, some, few, none))
+    by false true wrapped opened =
+        let none : room s ≡ 0 = cond-true _ _ _ (ap (λ (t : Bool). t || s.state.insert) wrapped ∙ opened) in
+        absurd (omega (arith, some, few, none))
+    by false false wrapped opened =
+        let left : room s ≡ s.grid.cols - s.state.x =
+        cond-false _ _ _ (ap (λ (t : Bool). t || s.state.insert) wrapped ∙ opened) in
+        (wrapped, opened, omega (arith, some, few, left))
 
 -- characters that fit lose no row
 char_level : (code n : ℕ) (s : Screen) → Fits (columns code + n) s

@@ -6,8 +6,7 @@ ghost use Rattle.vt_screen.specs.Run.{HasRun, IsQuietBefore, after, outs_of_opti
 use super::Emu;
 use crate::FallenRows;
 use vt_canvas::SideEffect;
-use vt_cells::columns_are_few;
-use vt_units::{Codes, MOST_CODES, Then, Unit, printables_are_characters, sequences_are_units};
+use vt_units::{Then, Unit, sequences_are_units};
 
 impl Emu {
     /// Does what [`Emu::write_until`] does, and ends also after the first byte by which a row falls out at the
@@ -72,12 +71,14 @@ impl Emu {
             return self.take_control_sequence(b, said);
         }
         said.clear();
-        if b[0] < 0x20 || self.canvas.room() == 0 {
+        let room = self.canvas.room();
+        if b[0] < 0x20 || room == 0 {
             0
         } else if b[0] < 0x80 {
             self.print_run(b)
         } else {
-            self.print_level_characters(b)
+            let front = &b[..b.len().min(room)];
+            self.print_characters(front)
         }
     }
 
@@ -100,26 +101,6 @@ impl Emu {
                 0
             }
         }
-    }
-
-    // Prints whole characters at the start of the text that end in the cursor's row, and returns the number of
-    // their bytes. Each takes two columns at most.
-    #[inline(never)]
-    fn print_level_characters(&mut self, b: &[u8]) -> usize
-        ensures ran { HasRun self.old b.now result self.new None }
-        ensures level { rows_of_run self.old (take result b.now) ≡ [] }
-    {
-        printables_are_characters();
-        columns_are_few();
-        let most = MOST_CODES.min(self.canvas.room() / 2);
-        let mut codes = Codes::new();
-        let count = self
-            .pending
-            .take_characters(self.canvas.mode(), b, most, &mut codes);
-        if count > 0 {
-            self.canvas.print_codes(codes.as_slice());
-        }
-        count
     }
 
     // Reads a byte and applies its result. `rows` then has the rows that fall out by it.
