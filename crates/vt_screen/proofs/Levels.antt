@@ -1,5 +1,5 @@
 -- Texts by which no row falls out at the top of the screen.
-use Rattle.std.proofs.Common.{◌≡◌, ◌==◌, ◌&&◌, ◌||◌, ◌-◌, ◌≤◌, ◌<◌, ◌≢◌, arith, length, zero, ℕ, Bool, true, false, suc, ◌+◌, ◌*◌, List, [], ◌∷◌, take, refl, sym, ap, subst, ◌∙◌, min, not, nat_le, nat_lt, leb-true, length-append, Some, if◌then◌else◌}
+use Rattle.std.proofs.Common.{◌≡◌, ◌==◌, ◌&&◌, ◌||◌, ◌-◌, ◌≤◌, ◌<◌, ◌≢◌, arith, length, zero, ℕ, Bool, true, false, suc, ◌+◌, ◌*◌, List, [], ◌∷◌, take, refl, sym, ap, subst, ◌∙◌, min, not, nat_le, nat_lt, leb-true, length-append, get_or, cond, Option, None, Some, if◌then◌else◌, ◌⊎◌, ⊎_elim}
 use Rattle.std.proofs.lemmas.Bool.{and_left, and_parts, and_right, cond-true, cond-false, or_from}
 use Rattle.std.proofs.lemmas.Bool.Decides.{nat_tests}
 use Rattle.std.proofs.lemmas.List.{length-take}
@@ -12,19 +12,22 @@ use Rattle.vt_chars.specs.declared.decoded.Decoded.TheVariants.{Character, Malfo
 use Rattle.vt_grid.specs.Grid.{row_at}
 use Rattle.vt_screen.proofs.Printed.{AllPrintable, empty_is, prefix_printable, print_mode, take_short}
 use Rattle.vt_screen.proofs.Sequences.{come_run}
-use Rattle.vt_screen.specs.Falling.{ScreenAndRows, row_effects, rows_of_run, then_fallen}
+use Rattle.vt_screen.specs.Falling.{ScreenAndRows, bytes_ahead, count_of, row_effects, rows_of_run, then_fallen}
 use Rattle.vt_units.proofs.Wholes.{all_shown, characters_run, well}
 use Rattle.vt_units.specs.Answer.{rest_after}
 use Rattle.vt_units.specs.Bytes.{decodes, is_printable}
 use Rattle.vt_units.specs.Characters.{AreTextsOf, IsTextOf}
 use Rattle.vt_units.specs.Laws.{IsUnitOf, PrintablesAreCharacters, SequencesAreUnits}
-use Rattle.vt_units.specs.Reading.{is_empty}
+use Rattle.vt_units.specs.Numbers.{params_of}
+use Rattle.vt_units.specs.Reading.{after_prefix, is_empty, longest_prefix}
 use Rattle.vt_units.specs.Rest.{Rest, fresh}
 use Rattle.vt_units.specs.Run.{Reached, effects_of, make_reached, run, step}
-use Rattle.vt_units.specs.WholeSequence.{Sequence, taken_ahead}
+use Rattle.vt_units.specs.Sequences.{is_parameter}
+use Rattle.vt_units.specs.WholeSequence.{Sequence, control_ahead, ends_control, escape_ahead, numbers_ahead, numbers_end, sequence_ahead, taken_ahead}
 use Rattle.vt_units.specs.declared.mode.Mode.{Mode}
 use Rattle.vt_units.specs.declared.read.Read.{Read}
 use Rattle.vt_units.specs.declared.unit.Unit as units
+use Rattle.vt_units.specs.declared.unit.Unit.TheVariants.{Csi}
 
 -- a screen without rows that fell out
 abbrev bare : Screen → ScreenAndRows
@@ -35,11 +38,11 @@ not_fed : (u : units.Unit) (s : Screen) → feeds_line u s ≡ false → fallen 
 not_fed u s is = cond-false (loses_row u s) (row_at s.grid 0 ∷ []) [] (and_right (is_at_end s) (feeds_line u s) is)
 
 -- above the last row no unit does
-pub above_end : (u : units.Unit) (s : Screen) → is_at_end s ≡ false → fallen u s ≡ []
+above_end : (u : units.Unit) (s : Screen) → is_at_end s ≡ false → fallen u s ≡ []
 above_end u s is = cond-false (loses_row u s) (row_at s.grid 0 ∷ []) [] (and_left (is_at_end s) (feeds_line u s) is)
 
 -- the rows of a sequence that is read at once are those of its unit
-pub sequence_rows : SequencesAreUnits → (text : List ℕ) (old : Reached Screen) (s : Screen) (rest : Rest) (m : Mode)
+sequence_rows : SequencesAreUnits → (text : List ℕ) (old : Reached Screen) (s : Screen) (rest : Rest) (m : Mode)
     (one : Sequence) → make_reached s rest ≡ old → m ≡ mode_of s → taken_ahead rest text ≡ Some one
     → rows_of_run old (take one.count text) ≡ fallen one.unit s
 sequence_rows law text old s rest m one view mode found =
@@ -49,11 +52,60 @@ sequence_rows law text old s rest m one view mode found =
     (come_run row_effects one.unit m (take one.count text) (bare s) rest (sym mode) comes.comes)
 
 -- a control sequence feeds no line
-pub control_rows : SequencesAreUnits → (text : List ℕ) (old : Reached Screen) (s : Screen) (rest : Rest) (m : Mode)
-    (one : Sequence) → make_reached s rest ≡ old → m ≡ mode_of s → taken_ahead rest text ≡ Some one
-    → feeds_line one.unit s ≡ false → rows_of_run old (take one.count text) ≡ []
-control_rows law text old s rest m one view mode found is =
-    sequence_rows law text old s rest m one view mode found ∙ not_fed one.unit s is
+numbers_level : (private : Bool) (before : ℕ) (numbers text : List ℕ) (one : Sequence) (s : Screen)
+    → numbers_end private before numbers text ≡ Some one → feeds_line one.unit s ≡ false
+numbers_level private before numbers [] one s found = absurd (let e : ⊥ = cc in e)
+numbers_level private before numbers (last ∷ more) one s found = by (ends_control last) refl found
+  where
+    unit : Sequence
+    unit = record { unit = Csi private (params_of numbers) last; count = before + length numbers + 1 }
+
+    by : (test : Bool) → ends_control last ≡ test → cond test (Some unit) None ≡ Some one → feeds_line one.unit s ≡ false
+    by true ends is = let same : unit ≡ one = cc in ap (λ (u : Sequence). feeds_line u.unit s) (sym same)
+    by false ends is = absurd (let e : ⊥ = cc in e)
+
+control_level : (text : List ℕ) (one : Sequence) (s : Screen) → control_ahead text ≡ Some one → feeds_line one.unit s ≡ false
+control_level [] one s found = absurd (let e : ⊥ = cc in e)
+control_level (b ∷ more) one s found = by (b == 0x3F) found
+  where
+    by : (test : Bool) → cond test (numbers_ahead true 3 more) (numbers_ahead false 2 (b ∷ more)) ≡ Some one
+        → feeds_line one.unit s ≡ false
+    by true is = numbers_level true 3 (longest_prefix is_parameter more) (after_prefix is_parameter more) one s is
+    by false is =
+        numbers_level false 2 (longest_prefix is_parameter (b ∷ more)) (after_prefix is_parameter (b ∷ more)) one s is
+
+opened_level : (text : List ℕ) (one : Sequence) (s : Screen) → get_or text 1 0 ≡ 0x5B → sequence_ahead text ≡ Some one
+    → feeds_line one.unit s ≡ false
+opened_level [] one s second found = absurd (let e : ⊥ = cc in e)
+opened_level (esc ∷ []) one s second found = absurd (let e : ⊥ = cc in e)
+opened_level (esc ∷ b ∷ more) one s second found = by (esc == 0x1B) found
+  where
+    by : (test : Bool) → cond test (escape_ahead b (take 254 more)) None ≡ Some one → feeds_line one.unit s ≡ false
+    by true is =
+        control_level (take 254 more) one s (ap (λ (x : ℕ). escape_ahead x (take 254 more)) (sym second) ∙ is)
+    by false is = absurd (let e : ⊥ = cc in e)
+
+-- a sequence that is read at once loses no row above the last row, nor if it is a control sequence
+pub ahead_level : SequencesAreUnits → (text : List ℕ) (old : Reached Screen) (s : Screen) (rest : Rest) (m : Mode)
+    → make_reached s rest ≡ old → m ≡ mode_of s → (is_at_end s ≡ false) ⊎ (get_or text 1 0 ≡ 0x5B)
+    → rows_of_run old (take (bytes_ahead old text) text) ≡ []
+ahead_level law text old s rest m view mode level =
+    ap (λ (n : ℕ). rows_of_run old (take n text)) (ap (λ (at : Reached Screen). bytes_ahead at text) (sym view))
+    ∙ by (taken_ahead rest text) refl
+  where
+    by : (ahead : Option Sequence) → taken_ahead rest text ≡ ahead → rows_of_run old (take (count_of (taken_ahead rest text)) text) ≡ []
+    by None found = ap (λ (a : Option Sequence). rows_of_run old (take (count_of a) text)) found
+    by (Some one) found =
+        ap (λ (a : Option Sequence). rows_of_run old (take (count_of a) text)) found
+        ∙ sequence_rows law text old s rest m one view mode found
+        ∙ ⊎_elim (above_end one.unit s)
+        (λ (second : get_or text 1 0 ≡ 0x5B). not_fed one.unit s (empty (is_empty rest.text) second found))
+        level
+      where
+        empty : (test : Bool) → get_or text 1 0 ≡ 0x5B → cond test (sequence_ahead text) None ≡ Some one
+            → feeds_line one.unit s ≡ false
+        empty true second is = opened_level text one s second is
+        empty false second is = absurd (let e : ⊥ = cc in e)
 
 -- so many columns from the cursor on end in its row, if there are any
 abbrev pub Fits : ℕ → Screen → Type 0
