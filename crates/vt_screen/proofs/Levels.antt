@@ -1,5 +1,5 @@
 -- Texts by which no row falls out at the top of the screen.
-use Rattle.std.proofs.Common.{◌≡◌, ◌==◌, ◌&&◌, ◌||◌, ◌-◌, ◌≤◌, ◌<◌, ◌≢◌, arith, length, zero, ℕ, Bool, true, false, suc, ◌+◌, ◌*◌, List, [], ◌∷◌, take, refl, sym, ap, subst, ◌∙◌, min, not, nat_le, nat_lt, leb-true, length-append, get_or, cond, Option, None, Some, if◌then◌else◌, ◌⊎◌, ⊎_elim}
+use Rattle.std.proofs.Common.{◌≡◌, ◌==◌, ◌&&◌, ◌||◌, ◌-◌, ◌≤◌, ◌<◌, ◌≢◌, arith, length, zero, ℕ, Bool, true, false, suc, ◌+◌, List, [], ◌∷◌, take, refl, sym, ap, subst, ◌∙◌, min, not, nat_le, nat_lt, leb-true, length-append, get_or, cond, Option, None, Some, if◌then◌else◌, ◌⊎◌, ⊎_elim}
 use Rattle.std.proofs.lemmas.Bool.{and_left, and_parts, and_right, cond-true, cond-false, or_from}
 use Rattle.std.proofs.lemmas.Bool.Decides.{nat_tests}
 use Rattle.std.proofs.lemmas.List.{length-take}
@@ -191,8 +191,13 @@ pub texts_columns : LowTakeOne → AtMostTwo → (text codes : List ℕ) → Are
     → columns_of_all codes ≤ length text
 texts_columns low most text [] are = omega arith
 texts_columns low most text (code ∷ codes) (first, more, joined, one, others) =
-    omega (arith, ap (λ (t : List ℕ). length t) joined, length-append first more,
-    text_columns low most first code one, texts_columns low most more codes others)
+    omega (
+      arith,
+      ap (λ (t : List ℕ). length t) joined,
+      length-append first more,
+      text_columns low most first code one,
+      texts_columns low most more codes others,
+    )
 
 -- so many columns fit as the cursor's row has left
 pub room_fits : (n : ℕ) (s : Screen) → n ≤ room s → Fits n s

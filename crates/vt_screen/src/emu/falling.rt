@@ -60,7 +60,7 @@ impl Emu {
     }
 
     // Runs the start of the text, if it is one of those by which no row falls out: characters that end in the
-    // cursor's row, or a control sequence. Returns the number of its bytes.
+    // cursor's row, or a sequence. Returns the number of its bytes.
     #[inline(always)]
     fn take_level(&mut self, b: &[u8], said: &mut SideEffect) -> usize
         requires { 0 < length b.now }

@@ -1,4 +1,4 @@
-use Rattle.std.proofs.Common.{◌≡◌, ◌∙◌, ℕ, take, inl, inr, refl, ap, sym}
+use Rattle.std.proofs.Common.{◌∙◌, ℕ, take, inl, inr, refl, ap, sym}
 use Rattle.vt_screen.proofs.Levels.{ahead_level}
 use Rattle.vt_screen.specs.Falling.{rows_of_run}
 use Rattle.vt_screen.proofs.emu.Emu.take_level_sequence.Goals.{then-begins_control-via-then-begins_control, then-begins_control-via-else-begins_control+then-not-is_at_end}
@@ -10,6 +10,6 @@ returns-then-begins_control-clause-level c =
     ∙ ahead_level c.sequences_are_units.ensures c.args.b.now c.args.self.now c.self.inside.canvas c.self.inside.pending
     _ c.self.view_is refl
     (elim c.then-begins_control.branch [
-      then-begins_control-via-then-begins_control w ↦ inr (c.begins_control.ensures w.if-begins_control.true)
-    | then-begins_control-via-else-begins_control+then-not-is_at_end w ↦ inl (sym w.is_at_end.ensures ∙ w.if-not-is_at_end.true)
+      | then-begins_control-via-then-begins_control w ↦ inr (c.begins_control.ensures w.if-begins_control.true)
+      | then-begins_control-via-else-begins_control+then-not-is_at_end w ↦ inl (sym w.is_at_end.ensures ∙ w.if-not-is_at_end.true)
     ])
