@@ -1,29 +1,33 @@
 -- Texts by which no row falls out at the top of the screen.
-use Rattle.std.proofs.Common.{◌≡◌, ◌==◌, ◌&&◌, ◌||◌, ◌-◌, ◌≤◌, ◌<◌, ◌≢◌, arith, length, zero, ℕ, Bool, true, false, suc, ◌+◌, ◌*◌, List, [], ◌∷◌, take, refl, sym, ap, subst, ◌∙◌, min, not, nat_le, nat_lt, leb-true, Some, if◌then◌else◌}
+use Rattle.std.proofs.Common.{◌≡◌, ◌==◌, ◌&&◌, ◌||◌, ◌-◌, ◌≤◌, ◌<◌, ◌≢◌, arith, length, zero, ℕ, Bool, true, false, suc, ◌+◌, List, [], ◌∷◌, take, refl, sym, ap, subst, ◌∙◌, min, not, nat_le, nat_lt, leb-true, length-append, get_or, cond, Option, None, Some, if◌then◌else◌, ◌⊎◌, ⊎_elim}
 use Rattle.std.proofs.lemmas.Bool.{and_left, and_parts, and_right, cond-true, cond-false, or_from}
 use Rattle.std.proofs.lemmas.Bool.Decides.{nat_tests}
 use Rattle.std.proofs.lemmas.List.{length-take}
 use Rattle.std.specs.List.{prefix_len}
 use Rattle.vt_canvas.specs.Falling.{fallen, feeds_line, goes_to_next_row, is_at_end, loses_row}
-use Rattle.vt_canvas.specs.Printing.{after_wrap, codes_drawn, lacks_room, print, print_character, with_cells_at_cursor, with_character, with_gap}
+use Rattle.vt_canvas.specs.Printing.{after_wrap, codes_drawn, lacks_room, print, print_character, room, with_cells_at_cursor, with_character, with_gap}
 use Rattle.vt_canvas.specs.Screen.{Screen, mode_of}
 use Rattle.vt_cells.specs.Width.{AtMostTwo, LowTakeOne, columns}
+use Rattle.vt_chars.specs.declared.decoded.Decoded.TheVariants.{Character, Malformed}
 use Rattle.vt_grid.specs.Grid.{row_at}
 use Rattle.vt_screen.proofs.Printed.{AllPrintable, empty_is, prefix_printable, print_mode, take_short}
 use Rattle.vt_screen.proofs.Sequences.{come_run}
-use Rattle.vt_screen.specs.Falling.{ScreenAndRows, row_effects, rows_of_run, then_fallen}
-use Rattle.vt_units.proofs.Wholes.{all_shown, characters_run}
+use Rattle.vt_screen.specs.Falling.{ScreenAndRows, bytes_ahead, count_of, row_effects, rows_of_run, then_fallen}
+use Rattle.vt_units.proofs.Wholes.{all_shown, characters_run, well}
 use Rattle.vt_units.specs.Answer.{rest_after}
 use Rattle.vt_units.specs.Bytes.{decodes, is_printable}
-use Rattle.vt_units.specs.Characters.{AreTextsOf}
+use Rattle.vt_units.specs.Characters.{AreTextsOf, IsTextOf}
 use Rattle.vt_units.specs.Laws.{IsUnitOf, PrintablesAreCharacters, SequencesAreUnits}
-use Rattle.vt_units.specs.Reading.{is_empty}
+use Rattle.vt_units.specs.Numbers.{params_of}
+use Rattle.vt_units.specs.Reading.{after_prefix, is_empty, longest_prefix}
 use Rattle.vt_units.specs.Rest.{Rest, fresh}
 use Rattle.vt_units.specs.Run.{Reached, effects_of, make_reached, run, step}
-use Rattle.vt_units.specs.WholeSequence.{Sequence, taken_ahead}
+use Rattle.vt_units.specs.Sequences.{is_parameter}
+use Rattle.vt_units.specs.WholeSequence.{Sequence, control_ahead, ends_control, escape_ahead, numbers_ahead, numbers_end, sequence_ahead, taken_ahead}
 use Rattle.vt_units.specs.declared.mode.Mode.{Mode}
 use Rattle.vt_units.specs.declared.read.Read.{Read}
 use Rattle.vt_units.specs.declared.unit.Unit as units
+use Rattle.vt_units.specs.declared.unit.Unit.TheVariants.{Csi}
 
 -- a screen without rows that fell out
 abbrev bare : Screen → ScreenAndRows
@@ -34,11 +38,11 @@ not_fed : (u : units.Unit) (s : Screen) → feeds_line u s ≡ false → fallen 
 not_fed u s is = cond-false (loses_row u s) (row_at s.grid 0 ∷ []) [] (and_right (is_at_end s) (feeds_line u s) is)
 
 -- above the last row no unit does
-pub above_end : (u : units.Unit) (s : Screen) → is_at_end s ≡ false → fallen u s ≡ []
+above_end : (u : units.Unit) (s : Screen) → is_at_end s ≡ false → fallen u s ≡ []
 above_end u s is = cond-false (loses_row u s) (row_at s.grid 0 ∷ []) [] (and_left (is_at_end s) (feeds_line u s) is)
 
 -- the rows of a sequence that is read at once are those of its unit
-pub sequence_rows : SequencesAreUnits → (text : List ℕ) (old : Reached Screen) (s : Screen) (rest : Rest) (m : Mode)
+sequence_rows : SequencesAreUnits → (text : List ℕ) (old : Reached Screen) (s : Screen) (rest : Rest) (m : Mode)
     (one : Sequence) → make_reached s rest ≡ old → m ≡ mode_of s → taken_ahead rest text ≡ Some one
     → rows_of_run old (take one.count text) ≡ fallen one.unit s
 sequence_rows law text old s rest m one view mode found =
@@ -48,11 +52,60 @@ sequence_rows law text old s rest m one view mode found =
     (come_run row_effects one.unit m (take one.count text) (bare s) rest (sym mode) comes.comes)
 
 -- a control sequence feeds no line
-pub control_rows : SequencesAreUnits → (text : List ℕ) (old : Reached Screen) (s : Screen) (rest : Rest) (m : Mode)
-    (one : Sequence) → make_reached s rest ≡ old → m ≡ mode_of s → taken_ahead rest text ≡ Some one
-    → feeds_line one.unit s ≡ false → rows_of_run old (take one.count text) ≡ []
-control_rows law text old s rest m one view mode found is =
-    sequence_rows law text old s rest m one view mode found ∙ not_fed one.unit s is
+numbers_level : (private : Bool) (before : ℕ) (numbers text : List ℕ) (one : Sequence) (s : Screen)
+    → numbers_end private before numbers text ≡ Some one → feeds_line one.unit s ≡ false
+numbers_level private before numbers [] one s found = absurd (let e : ⊥ = cc in e)
+numbers_level private before numbers (last ∷ more) one s found = by (ends_control last) refl found
+  where
+    unit : Sequence
+    unit = record { unit = Csi private (params_of numbers) last; count = before + length numbers + 1 }
+
+    by : (test : Bool) → ends_control last ≡ test → cond test (Some unit) None ≡ Some one → feeds_line one.unit s ≡ false
+    by true ends is = let same : unit ≡ one = cc in ap (λ (u : Sequence). feeds_line u.unit s) (sym same)
+    by false ends is = absurd (let e : ⊥ = cc in e)
+
+control_level : (text : List ℕ) (one : Sequence) (s : Screen) → control_ahead text ≡ Some one → feeds_line one.unit s ≡ false
+control_level [] one s found = absurd (let e : ⊥ = cc in e)
+control_level (b ∷ more) one s found = by (b == 0x3F) found
+  where
+    by : (test : Bool) → cond test (numbers_ahead true 3 more) (numbers_ahead false 2 (b ∷ more)) ≡ Some one
+        → feeds_line one.unit s ≡ false
+    by true is = numbers_level true 3 (longest_prefix is_parameter more) (after_prefix is_parameter more) one s is
+    by false is =
+        numbers_level false 2 (longest_prefix is_parameter (b ∷ more)) (after_prefix is_parameter (b ∷ more)) one s is
+
+opened_level : (text : List ℕ) (one : Sequence) (s : Screen) → get_or text 1 0 ≡ 0x5B → sequence_ahead text ≡ Some one
+    → feeds_line one.unit s ≡ false
+opened_level [] one s second found = absurd (let e : ⊥ = cc in e)
+opened_level (esc ∷ []) one s second found = absurd (let e : ⊥ = cc in e)
+opened_level (esc ∷ b ∷ more) one s second found = by (esc == 0x1B) found
+  where
+    by : (test : Bool) → cond test (escape_ahead b (take 254 more)) None ≡ Some one → feeds_line one.unit s ≡ false
+    by true is =
+        control_level (take 254 more) one s (ap (λ (x : ℕ). escape_ahead x (take 254 more)) (sym second) ∙ is)
+    by false is = absurd (let e : ⊥ = cc in e)
+
+-- a sequence that is read at once loses no row above the last row, nor if it is a control sequence
+pub ahead_level : SequencesAreUnits → (text : List ℕ) (old : Reached Screen) (s : Screen) (rest : Rest) (m : Mode)
+    → make_reached s rest ≡ old → m ≡ mode_of s → (is_at_end s ≡ false) ⊎ (get_or text 1 0 ≡ 0x5B)
+    → rows_of_run old (take (bytes_ahead old text) text) ≡ []
+ahead_level law text old s rest m view mode level =
+    ap (λ (n : ℕ). rows_of_run old (take n text)) (ap (λ (at : Reached Screen). bytes_ahead at text) (sym view))
+    ∙ by (taken_ahead rest text) refl
+  where
+    by : (ahead : Option Sequence) → taken_ahead rest text ≡ ahead → rows_of_run old (take (count_of (taken_ahead rest text)) text) ≡ []
+    by None found = ap (λ (a : Option Sequence). rows_of_run old (take (count_of a) text)) found
+    by (Some one) found =
+        ap (λ (a : Option Sequence). rows_of_run old (take (count_of a) text)) found
+        ∙ sequence_rows law text old s rest m one view mode found
+        ∙ ⊎_elim (above_end one.unit s)
+        (λ (second : get_or text 1 0 ≡ 0x5B). not_fed one.unit s (empty (is_empty rest.text) second found))
+        level
+      where
+        empty : (test : Bool) → get_or text 1 0 ≡ 0x5B → cond test (sequence_ahead text) None ≡ Some one
+            → feeds_line one.unit s ≡ false
+        empty true second is = opened_level text one s second is
+        empty false second is = absurd (let e : ⊥ = cc in e)
 
 -- so many columns from the cursor on end in its row, if there are any
 abbrev pub Fits : ℕ → Screen → Type 0
@@ -124,9 +177,44 @@ abbrev pub columns_of_all : List ℕ → ℕ
 columns_of_all [] = 0
 columns_of_all (code ∷ codes) = columns code + columns_of_all codes
 
-pub few_columns : AtMostTwo → (codes : List ℕ) → columns_of_all codes ≤ 2 * length codes
-few_columns most [] = omega arith
-few_columns most (code ∷ codes) = omega (arith, most code, few_columns most codes)
+-- a character takes at most as many columns as its text has bytes
+text_columns : LowTakeOne → AtMostTwo → (first : List ℕ) (code : ℕ) → IsTextOf first code → columns code ≤ length first
+text_columns low most [] code is = absurd (let e : ⊥ = (let clash : Malformed ≡ Character code = is.whole in cc) in e)
+text_columns low most (a ∷ []) code is =
+    let whole = well (a ∷ []) code is.whole in
+    let under : code < 0x300 = omega (arith, leb-true a 0x7F whole.0, whole.1) in
+    let other : code ≢ 0xAD = omega (arith, leb-true a 0x7F whole.0, whole.1) in
+    omega (arith, low code under other)
+text_columns low most (a ∷ b ∷ more) code is = omega (arith, most code)
+
+pub texts_columns : LowTakeOne → AtMostTwo → (text codes : List ℕ) → AreTextsOf text codes
+    → columns_of_all codes ≤ length text
+texts_columns low most text [] are = omega arith
+texts_columns low most text (code ∷ codes) (first, more, joined, one, others) =
+    omega (
+      arith,
+      ap (λ (t : List ℕ). length t) joined,
+      length-append first more,
+      text_columns low most first code one,
+      texts_columns low most more codes others,
+    )
+
+-- so many columns fit as the cursor's row has left
+pub room_fits : (n : ℕ) (s : Screen) → n ≤ room s → Fits n s
+room_fits n s few some = by s.state.wrap s.state.insert refl refl
+  where
+    by : (wrap insert : Bool) → s.state.wrap ≡ wrap → s.state.insert ≡ insert
+        → (s.state.wrap ≡ false) × (s.state.insert ≡ false) × (s.state.x + n ≤ s.grid.cols)
+    by true insert wrapped opened =
+        let none : room s ≡ 0 = cond-true _ _ _ (ap (λ (t : Bool). t || s.state.insert) wrapped) in
+        absurd (omega (arith, some, few, none))
+    by false true wrapped opened =
+        let none : room s ≡ 0 = cond-true _ _ _ (ap (λ (t : Bool). t || s.state.insert) wrapped ∙ opened) in
+        absurd (omega (arith, some, few, none))
+    by false false wrapped opened =
+        let left : room s ≡ s.grid.cols - s.state.x =
+        cond-false _ _ _ (ap (λ (t : Bool). t || s.state.insert) wrapped ∙ opened) in
+        (wrapped, opened, omega (arith, some, few, left))
 
 -- characters that fit lose no row
 char_level : (code n : ℕ) (s : Screen) → Fits (columns code + n) s

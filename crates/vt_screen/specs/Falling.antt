@@ -1,11 +1,12 @@
 -- The rows that fall out at the top of the screen while a text is run: a run over a screen and a list of rows.
-use Rattle.std.specs.Prelude.{◌≡◌, ◌<◌, ℕ, List, [], ◌++◌, take}
+use Rattle.std.specs.Prelude.{◌≡◌, ◌<◌, ℕ, List, [], ◌++◌, take, Option, Some, None}
 use Rattle.vt_canvas.specs.Effect.{effect}
 use Rattle.vt_canvas.specs.Falling.{fallen}
 use Rattle.vt_canvas.specs.Screen.{Screen, mode_of}
 use Rattle.vt_cells.specs.declared.cell.Cell.{Cell}
 use Rattle.vt_screen.specs.Run.{after}
 use Rattle.vt_units.specs.Run.{Effects, Reached, make_reached, run}
+use Rattle.vt_units.specs.WholeSequence.{Sequence, taken_ahead}
 use Rattle.vt_units.specs.declared.unit.Unit as units
 use Rattle.vt_units.specs.declared.unit.Unit.TheVariants.{Control}
 
@@ -41,3 +42,11 @@ IsLevelBefore count old text = (k : ℕ) → k < count → rows_of_run old (take
 -- any cut: the rows of a text are those of its two parts, wherever it is cut
 abbrev pub AnyRowCut : Type 0
 AnyRowCut = (m : Reached Screen) (a b : List ℕ) → rows_of_run m (a ++ b) ≡ rows_of_run m a ++ rows_of_run (after m a) b
+
+abbrev pub count_of : Option Sequence → ℕ
+count_of None = 0
+count_of (Some one) = one.count
+
+-- how many bytes the sequence has that is read at once, 0 if there is none
+abbrev pub bytes_ahead : Reached Screen → List ℕ → ℕ
+bytes_ahead m text = count_of (taken_ahead m.rest text)

@@ -248,9 +248,11 @@ impl Emu {
     #[inline(never)]
     #[tactic(auto, using(crate::proofs::Quiet::quiet_none))]
     fn print_characters(&mut self, b: &[u8]) -> usize
-        ensures { HasRun self.old b.now result self.new None }
+        ensures ran { HasRun self.old b.now result self.new None }
+        ensures level { length b.now ≤ room self.old.state → rows_of_run self.old (take result b.now) ≡ [] }
     {
         printables_are_characters();
+        columns_are_few();
         let mut codes = Codes::new();
         let count = self
             .pending

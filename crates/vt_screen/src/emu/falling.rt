@@ -1,13 +1,12 @@
 //! A text of any length, and the rows that fall out at the top of the screen.
-ghost use Rattle.std.specs.Prelude.{◌≡◌, ◌<◌, ◌≤◌, [], ◌∷◌, None, length, take};
+ghost use Rattle.std.specs.Prelude.{◌≡◌, ◌<◌, ◌≤◌, [], ◌∷◌, None, true, length, get_or, take};
 ghost use Rattle.vt_screen.specs.Falling.{IsLevelBefore, rows_of_run};
 ghost use Rattle.vt_screen.specs.Run.{HasRun, IsQuietBefore, after, outs_of_option, outs_of_run, run_from, with_outs};
 
 use super::Emu;
 use crate::FallenRows;
 use vt_canvas::SideEffect;
-use vt_cells::columns_are_few;
-use vt_units::{Codes, MOST_CODES, Then, Unit, printables_are_characters, sequences_are_units};
+use vt_units::{Then, Unit, controls_are_units, sequences_are_units};
 
 impl Emu {
     /// Does what [`Emu::write_until`] does, and ends also after the first byte by which a row falls out at the
@@ -61,7 +60,7 @@ impl Emu {
     }
 
     // Runs the start of the text, if it is one of those by which no row falls out: characters that end in the
-    // cursor's row, or a control sequence. Returns the number of its bytes.
+    // cursor's row, or a sequence. Returns the number of its bytes.
     #[inline(always)]
     fn take_level(&mut self, b: &[u8], said: &mut SideEffect) -> usize
         requires { 0 < length b.now }
@@ -69,57 +68,33 @@ impl Emu {
         ensures level { rows_of_run self.old (take result b.now) ≡ [] }
     {
         if b[0] == 0x1B {
-            return self.take_control_sequence(b, said);
+            return self.take_level_sequence(b, said);
         }
         said.clear();
-        if b[0] < 0x20 || self.canvas.room() == 0 {
+        let room = self.canvas.room();
+        if b[0] < 0x20 || room == 0 {
             0
         } else if b[0] < 0x80 {
             self.print_run(b)
         } else {
-            self.print_level_characters(b)
+            let front = &b[..b.len().min(room)];
+            self.print_characters(front)
         }
     }
 
-    // Runs the control sequence of one or two short parameters that the text begins with, and returns the number
-    // of its bytes.
+    // Runs the sequence that the text begins with, if it is read at once and no row falls out by it: a control
+    // sequence, or any one above the last row. Returns the number of its bytes.
     #[inline(always)]
-    fn take_control_sequence(&mut self, b: &[u8], said: &mut SideEffect) -> usize
+    fn take_level_sequence(&mut self, b: &[u8], said: &mut SideEffect) -> usize
         ensures ran { HasRun self.old b.now result self.new said.new }
         ensures level { rows_of_run self.old (take result b.now) ≡ [] }
     {
         sequences_are_units();
-        match self.pending.take_short_csi(self.canvas.mode(), b) {
-            Some(brief) => {
-                self.canvas
-                    .dispatch_short_csi(brief.first, brief.second, brief.both, brief.last, said);
-                brief.count
-            }
-            None => {
-                said.clear();
-                0
-            }
+        if begins_control(b) || !self.canvas.is_at_end() {
+            return self.take_any_sequence(b, said);
         }
-    }
-
-    // Prints whole characters at the start of the text that end in the cursor's row, and returns the number of
-    // their bytes. Each takes two columns at most.
-    #[inline(never)]
-    fn print_level_characters(&mut self, b: &[u8]) -> usize
-        ensures ran { HasRun self.old b.now result self.new None }
-        ensures level { rows_of_run self.old (take result b.now) ≡ [] }
-    {
-        printables_are_characters();
-        columns_are_few();
-        let most = MOST_CODES.min(self.canvas.room() / 2);
-        let mut codes = Codes::new();
-        let count = self
-            .pending
-            .take_characters(self.canvas.mode(), b, most, &mut codes);
-        if count > 0 {
-            self.canvas.print_codes(codes.as_slice());
-        }
-        count
+        said.clear();
+        0
     }
 
     // Reads a byte and applies its result. `rows` then has the rows that fall out by it.
@@ -129,7 +104,13 @@ impl Emu {
         ensures ran { run_from self.old (byte ∷ []) ≡ with_outs (outs_of_option said.new) self.new }
         ensures rows { rows.new ≡ rows_of_run self.old (byte ∷ []) }
     {
+        controls_are_units();
         said.clear();
+        if self.pending.take_control(self.canvas.mode(), byte) {
+            rows.keep(&self.canvas, &Unit::Control(byte));
+            self.canvas.control(byte, said);
+            return;
+        }
         let read = self.pending.take(self.canvas.mode(), byte);
         if read.bad {
             rows.keep(&self.canvas, &Unit::Char(0xFFFD));
@@ -147,4 +128,12 @@ impl Emu {
             Then::More | Then::Dropped => {}
         }
     }
+}
+
+// Whether the second byte of the text is that of a control sequence.
+#[inline(always)]
+fn begins_control(b: &[u8]) -> bool
+    ensures { result ≡ true → get_or b.now 1 0 ≡ 0x5B }
+{
+    b.len() > 1 && b[1] == b'['
 }

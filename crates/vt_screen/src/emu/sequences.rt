@@ -1,5 +1,6 @@
 //! Sequences that stand whole at the start of a text.
 ghost use Rattle.std.specs.Prelude.{◌≡◌};
+ghost use Rattle.vt_screen.specs.Falling.{bytes_ahead};
 ghost use Rattle.vt_screen.specs.Run.{HasRun};
 
 use crate::Emu;
@@ -11,7 +12,8 @@ impl Emu {
     // the fastest way; all others go on to `take_escape`, `take_long_sgr` and `take_sequence`, in this order.
     #[inline(always)]
     pub(super) fn take_any_sequence(&mut self, b: &[u8], said: &mut SideEffect) -> usize
-        ensures { HasRun self.old b.now result self.new said.new }
+        ensures ran { HasRun self.old b.now result self.new said.new }
+        ensures count { result ≡ bytes_ahead self.old b.now }
     {
         sequences_are_units();
         match self.pending.take_short_csi(self.canvas.mode(), b) {
@@ -27,7 +29,8 @@ impl Emu {
     // Does what `take_sequence` does, by a faster way for an escape sequence of two bytes.
     #[inline(always)]
     fn take_escape(&mut self, b: &[u8], said: &mut SideEffect) -> usize
-        ensures { HasRun self.old b.now result self.new said.new }
+        ensures ran { HasRun self.old b.now result self.new said.new }
+        ensures count { result ≡ bytes_ahead self.old b.now }
     {
         sequences_are_units();
         match self.pending.take_escape(self.canvas.mode(), b) {
@@ -42,7 +45,8 @@ impl Emu {
     // Does what `take_sequence` does, by a faster way for SGR that sets one colour.
     #[inline(never)]
     fn take_long_sgr(&mut self, b: &[u8], said: &mut SideEffect) -> usize
-        ensures { HasRun self.old b.now result self.new said.new }
+        ensures ran { HasRun self.old b.now result self.new said.new }
+        ensures count { result ≡ bytes_ahead self.old b.now }
     {
         sequences_are_units();
         match self.pending.take_long_sgr(self.canvas.mode(), b) {
@@ -60,7 +64,8 @@ impl Emu {
     #[inline(never)]
     #[tactic(auto, using(crate::proofs::Quiet::quiet_none))]
     fn take_sequence(&mut self, b: &[u8], said: &mut SideEffect) -> usize
-        ensures { HasRun self.old b.now result self.new said.new }
+        ensures ran { HasRun self.old b.now result self.new said.new }
+        ensures count { result ≡ bytes_ahead self.old b.now }
     {
         sequences_are_units();
         let mut params = Params::new();

@@ -1,18 +1,20 @@
-use Rattle.std.proofs.Common.{◌≡◌, ◌<◌, false, ℕ, List, [], take, length, ◌==◌, sym, ap, ◌∙◌, arith}
+use Rattle.std.proofs.Common.{◌≡◌, ◌<◌, ◌≤◌, false, ℕ, List, [], take, length, ◌==◌, sym, ap, subst, ◌∙◌, arith}
 use Rattle.std.proofs.lemmas.Bool.{cond-false}
 use Rattle.std.proofs.lemmas.Bool.Decides.{nat_tests}
 use Rattle.std.proofs.lemmas.List.{length-take-le}
+use Rattle.vt_screen.proofs.Levels.{characters_level, columns_of_all, room_fits, texts_columns}
 use Rattle.vt_screen.proofs.Quiet.{quiet_run}
+use Rattle.vt_screen.specs.Falling.{rows_of_run}
 use Rattle.vt_screen.proofs.Shown.{codes_run}
-use Rattle.vt_canvas.specs.Printing.{print_characters}
+use Rattle.vt_canvas.specs.Printing.{print_characters, room}
 use Rattle.vt_screen.specs.Run.{run_from, with_outs}
 use Rattle.vt_canvas.specs.Screen.{Screen}
 use Rattle.vt_units.specs.Rest.{Rest, fresh}
 use Rattle.vt_units.specs.Run.{Reached, make_reached}
 use Rattle.vt_screen.proofs.emu.Emu.print_characters.Goals as goal
 
-pub returns-then-count-gt0 : goal.returns-then-count-gt0
-returns-then-count-gt0 c =
+pub returns-then-count-gt0-clause-ran : goal.returns-then-count-gt0-clause-ran
+returns-then-count-gt0-clause-ran c =
     let text : List ℕ = c.args.b.now in
     let count : ℕ = c.take_characters-count.result in
     let front : List ℕ = take count text in
@@ -34,3 +36,20 @@ returns-then-count-gt0 c =
     c.take_characters-count.ensures.texts long begun.0 begun.1
     ∙ (λ i. with_outs [] (make_reached (sym shown i) (sym left i))) in
     (c.take_characters-count.ensures.bound, ran, quiet_run c.args.self.now text count _ ran)
+
+pub returns-then-count-gt0-clause-level : goal.returns-then-count-gt0-clause-level
+returns-then-count-gt0-clause-level c short =
+    let text : List ℕ = c.args.b.now in
+    let count : ℕ = c.take_characters-count.result in
+    let s : Screen = c.self.inside.canvas in
+    let codes : List ℕ = c.take_characters-count.new.codes in
+    let begun = c.take_characters-count.ensures.decoding c.if-count-gt0.true in
+    let low = c.columns_are_few.ensures.low in
+    let most = c.columns_are_few.ensures.most in
+    let columns = texts_columns low most (take count text) codes c.take_characters-count.ensures.texts in
+    let here : length text ≤ room s = subst (λ (m : Reached Screen). length text ≤ room m.state) (sym c.self.view_is) short in
+    let few : columns_of_all codes ≤ room s =
+    omega (arith, columns, length-take-le count text c.take_characters-count.ensures.bound, c.take_characters-count.ensures.bound, here) in
+    ap (λ (m : Reached Screen). rows_of_run m (take count text)) (sym c.self.view_is)
+    ∙ characters_level c.printables_are_characters.ensures most (take count text) codes s c.self.inside.pending
+    c.mode.result c.mode.ensures c.take_characters-count.ensures.texts begun.0 begun.1 (room_fits (columns_of_all codes) s few)

@@ -8,16 +8,16 @@ use Rattle.vt_units.specs.Rest.{Rest}
 use Rattle.vt_units.specs.Run.{Reached, make_reached}
 use Rattle.vt_screen.proofs.emu.Emu.take_long_sgr.Goals as goal
 
-pub returns-in-Some : goal.returns-in-Some
-returns-in-Some c =
+pub returns-in-Some-clause-ran : goal.returns-in-Some-clause-ran
+returns-in-Some-clause-ran c =
     subst (λ (said : Option Out). HasRun c.args.self.now c.args.b.now c.in-Some.longer.count (make_reached c.dispatch_long_sgr.new.self c.take_long_sgr.new.self) said)
     (sym c.clear.ensures)
     (sequence_run c.sequences_are_units.ensures c.args.b.now c.args.self.now c.self.inside.canvas c.dispatch_long_sgr.new.self
     c.self.inside.pending c.take_long_sgr.new.self c.mode.result (sgr_in c.in-Some.longer) None
     c.self.view_is c.mode.ensures c.in-Some.ensures.sequence c.in-Some.ensures.rest c.dispatch_long_sgr.ensures)
 
-pub returns-in-None : goal.returns-in-None
-returns-in-None c =
+pub returns-in-None-clause-ran : goal.returns-in-None-clause-ran
+returns-in-None-clause-ran c =
     subst (λ (old : Reached Screen). HasRun old c.args.b.now c.take_sequence.result c.take_sequence.new.self c.take_sequence.new.said)
     (ap (λ (r : Rest). make_reached c.self.inside.canvas r) c.in-None.ensures.rest ∙ c.self.view_is)
-    c.take_sequence.ensures
+    c.take_sequence.ensures.ran
