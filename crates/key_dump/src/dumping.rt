@@ -8,7 +8,6 @@ ghost use Rattle.key_syms.specs.Act.{is_character};
 ghost use Rattle.key_text.specs.KeymapLine.{is_real};
 
 use crate::entries::add_table;
-use crate::laws::dump_reads_back;
 use crate::numerals::{add, add_code_point, add_number};
 use crate::quoting::add_string;
 use key_syms::{Pair, STRING_COUNT, TABLE_COUNT};
@@ -32,7 +31,6 @@ pub fn dump(alloc: Global, tables: &KeyTables) -> Result<Bytes, NoMemory>
     ensures back { IfOk result (λ text. ReadsAs text.bytes tables.now) }
 {
     tables.stays_whole();
-    dump_reads_back();
     let mut text = Bytes::new(alloc);
     add_keymaps(alloc, &mut text, tables)?;
     add_tables(alloc, &mut text, tables)?;

@@ -5,4 +5,5 @@ pub mod Listed
 pub mod Places
 pub mod Ranks
 pub mod Rows
+pub mod Stated
 pub mod for_laws

@@ -12,6 +12,7 @@ mod LeftSignals
 pub mod MadeSession
 pub mod NextCalls
 pub mod Saying
+pub mod Stated
 pub mod TopReading
 pub mod Turning
 pub mod Walks

@@ -48,7 +48,7 @@ impl Items {
     {
         let added = self.events.push(e);
         prove!(added.is_ok());
-        let _ = added;
+        let _ = added; // only the proof reads it
         self.room -= 1;
     }
 

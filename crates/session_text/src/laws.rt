@@ -2,14 +2,10 @@
 ghost use Rattle.session_text.specs.Programs.{WaitsAreEnded};
 ghost use Rattle.session_text.specs.Sessions.{CallersHavePrograms, OneSession};
 
-use vt_journal::one_call;
-
 /// A text is one session or has one fault, never both.
 pub fn one_session()
     ensures { OneSession }
-{
-    one_call();
-}
+{}
 
 /// Exactly the callers of a session have a program.
 pub fn callers_have_programs()

@@ -1,2 +1,3 @@
 pub mod Prefixes
+pub mod Stated
 pub mod for_laws

@@ -11,4 +11,5 @@ pub mod Pairs
 pub mod ReplyWords
 pub mod Saying
 pub mod Spellings
+pub mod Stated
 pub mod Texts

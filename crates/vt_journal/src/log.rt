@@ -73,7 +73,7 @@ impl Log {
         self.bytes += u64::from(charge);
         let added = self.entries.push(e);
         prove!(added.is_ok());
-        let _ = added;
+        let _ = added; // only the proof reads it
     }
 
     /// Removes all entries. The room for them stays.

@@ -14,7 +14,6 @@ use crate::fault_code::{BAD_LINE, MORE, NO_FIRST, NO_LAST, TOO_MANY};
 use crate::first::read_first;
 use crate::first_line::FirstLine;
 use crate::j_error::refused;
-use crate::laws::one_journal;
 use crate::tail_lines::read_tail;
 use crate::{Entries, JError, Journal, Tail};
 use std::alloc::Global;
@@ -26,12 +25,12 @@ const MOST_ENTRIES: u32 = 1_000_000;
 
 /// The journal of the text, in either version, or the text's first fault. A journal has one spelling in
 /// each version.
+#[tactic(auto, using(crate::proofs::Saying::one_journal))]
 pub fn parse(alloc: Global, text: &[u8]) -> Result<Journal, JError>
     ensures says { Reads result (JournalSays text.now) }
     ensures one { (said : Result Journal JFault) → JournalSays text.now said
         → Reads result (λ s. s ≡ said) }
 {
-    one_journal();
     read_journal(alloc, text)
 }
 

@@ -15,7 +15,7 @@ use crate::callers::add_caller;
 use crate::{Full, Tail};
 use std::alloc::Global;
 use vt_base::{Bytes, NoMemory};
-use vt_events::{Entry, Event, Parts, Reply, parts_make_the_call};
+use vt_events::{Entry, Event, Parts, Reply};
 
 /// Adds the journal text of the entries and their end, in this version. The text can be read again. It is made as a
 /// text of its own first, so that `rest` and its room are unchanged if memory runs out.
@@ -149,7 +149,6 @@ fn add_event_words(alloc: Global, text: &mut Bytes, e: &Event) -> Result<(), NoM
     ensures adds { AddsPart (blank_before_each (event_words e.now)) text.old text.new result }
     ensures fit { OnOk result (IsFit (plain_event e.now)) }
 {
-    parts_make_the_call();
     let parts = Parts::of(e);
     add_named(alloc, text, parts.kind().name(), parts.numbers())?;
     add_held(alloc, text, parts.held())?;

@@ -1,4 +1,5 @@
 mod Lookups
 mod Sets
 mod Sound
+pub mod Stated
 pub mod for_laws

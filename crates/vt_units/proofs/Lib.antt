@@ -22,6 +22,7 @@ mod Settling
 mod ShortForms
 mod ShortSequences
 mod Sizes
+pub mod Stated
 mod Steps
 mod Walks
 pub mod Wholes

@@ -3,14 +3,10 @@ ghost use Rattle.vt_units.specs.Cutting.{CutsAreRuns, TextsAreCut};
 ghost use Rattle.vt_units.specs.Laws.{AnyCut, CharactersEnd, ControlsAreUnits, DropsExactly, PiecesAct, PiecesResume, PrintablesAreCharacters, SequencesAreUnits, SequencesEnd, StringsEnd, TextsSpellCharacters};
 ghost use Rattle.vt_units.specs.Units.{UnfinishedIsBefore};
 
-use vt_chars::unfinished_begins;
-
 /// The unfinished texts are exactly the proper prefixes of units. So no unit is a prefix of another.
 pub fn unfinished_is_before()
     ensures { UnfinishedIsBefore }
-{
-    unfinished_begins();
-}
+{}
 
 /// A text has the same run however it is cut.
 pub fn any_cut()
@@ -21,9 +17,7 @@ pub fn any_cut()
 pub fn pieces_act()
     ensures fresh { PiecesAct }
     ensures resumed { PiecesResume }
-{
-    unfinished_begins();
-}
+{}
 
 /// If a byte ends the text before it, the byte is read as if it stood alone.
 pub fn ended_texts()
@@ -60,14 +54,10 @@ pub fn texts_spell_characters()
 /// Every text is pieces and one last rest, and its run is their results in order.
 pub fn texts_are_cut()
     ensures { TextsAreCut }
-{
-    unfinished_begins();
-}
+{}
 
 /// However a text is cut into pieces and one last rest, their result is its run. With `texts_are_cut`, a text has
 /// exactly one result.
 pub fn one_result()
     ensures { CutsAreRuns }
-{
-    unfinished_begins();
-}
+{}

@@ -19,6 +19,7 @@ pub(crate) fn command(mode: Mode, text: &[u8], b: u8) -> (Then, Step)
     requires { Stands ParserState.Osc mode text.now }
     ensures { Inside mode text.now b result.0 result.1 }
 {
+    // Neither matters in this state.
     let _ = mode;
     let _ = text;
     if acts(b) {

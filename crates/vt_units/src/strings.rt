@@ -12,6 +12,7 @@ pub(crate) fn string(mode: Mode, text: &[u8], b: u8) -> (Then, Step)
     requires { Stands ParserState.ControlString mode text.now }
     ensures { Inside mode text.now b result.0 result.1 }
 {
+    // Neither matters in this state.
     let _ = mode;
     let _ = text;
     if is_swallowed(b) {
@@ -28,6 +29,7 @@ pub(crate) fn string_end(mode: Mode, text: &[u8], b: u8) -> (Then, Step)
     requires { Stands ParserState.StringEscape mode text.now }
     ensures { Inside mode text.now b result.0 result.1 }
 {
+    // Neither matters in this state.
     let _ = mode;
     let _ = text;
     if b == b'\\' {

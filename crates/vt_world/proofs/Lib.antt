@@ -11,6 +11,7 @@ mod Owners
 mod Places
 mod Refused
 mod Requests
+pub mod Stated
 mod Stays
 mod Typed
 mod Users

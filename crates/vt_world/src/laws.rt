@@ -6,8 +6,6 @@ ghost use Rattle.vt_world.specs.Rights.{AdmissionsAreStarts, AdmissionsComeFirst
 ghost use Rattle.vt_world.specs.StepLaws.{NobodyWaitsAtStart, OneTranslation, SizesStay, TerminalsStay, TicketsAreCalled};
 
 use crate::World;
-use vt_screen::tapes_run;
-use vt_switch::{each_hop_was_allowed, each_target_was_asked_for};
 
 /// How a legal history grows, entry by entry.
 pub fn legal_grows()
@@ -28,17 +26,13 @@ pub fn displays_are_lawful()
     ensures trace { TracesTellDeeds }
     ensures told { TracesTellActs }
     ensures hops { TracesTellHops }
-{
-    each_hop_was_allowed();
-    each_target_was_asked_for();
-}
+{}
 
 /// The cause of each switch of the display in every history from any machine in which no console
 /// waits for the display.
 pub fn displays_are_lawful_from(w: &World)
     ensures { DisplaysAreLawfulFrom w.now }
 {
-    each_hop_was_allowed();
     w.owners_live();
 }
 
@@ -96,6 +90,4 @@ pub fn nobody_waits_at_start()
 pub fn screens_are_tapes()
     ensures screens { ScreensAreTapes }
     ensures terminals { TerminalsAreAllocated }
-{
-    tapes_run();
-}
+{}

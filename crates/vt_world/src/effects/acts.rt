@@ -10,7 +10,7 @@ use crate::World;
 use crate::trace::MOST_MARKS;
 use crate::wanted::Wanted;
 use vt_base::{CallerNo, ConsoleNo, VtMode};
-use vt_switch::{Asked, Mark, each_target_was_asked_for};
+use vt_switch::{Asked, Mark};
 
 impl World {
     /// Requests the display for the wanted console, if there is one and it is allocated.
@@ -19,7 +19,6 @@ impl World {
         ensures state { self.new ≡ apply_deed self.old (Asks wanted) }
         ensures room { length self.new.trace.marks ≤ length self.old.trace.marks + 3 }
     {
-        each_target_was_asked_for();
         let Some(n) = self.wanted(wanted) else { return };
         let allocated = self.switch.allocated(n);
         let asked = self.switch.request(n);
@@ -40,7 +39,6 @@ impl World {
         ensures accepted { result ≡ is_taken (release_result self.old.display c p arg) }
         ensures state { self.new ≡ apply_deed self.old (By (Release c p arg)) }
     {
-        each_target_was_asked_for();
         match self.switch.release(c, p, arg) {
             Ok(hop) => {
                 self.hopped(&hop);
@@ -57,7 +55,6 @@ impl World {
         ensures accepted { result ≡ is_taken (mode_answer (handling_of p m)) }
         ensures state { self.new ≡ apply_deed self.old (By (SetMode c p m)) }
     {
-        each_target_was_asked_for();
         self.switch.set_mode(c, p, m).is_ok()
     }
 
@@ -65,7 +62,6 @@ impl World {
     pub(crate) fn show(&mut self, c: ConsoleNo, graphics: bool)
         ensures { self.new ≡ apply_deed self.old (By (SetKd c graphics)) }
     {
-        each_target_was_asked_for();
         self.switch.set_kd(c, graphics);
     }
 
@@ -73,7 +69,6 @@ impl World {
     pub(crate) fn lock(&mut self, on: bool)
         ensures { self.new ≡ apply_deed self.old (By (Lock on)) }
     {
-        each_target_was_asked_for();
         self.switch.set_lock(on);
     }
 
@@ -83,7 +78,6 @@ impl World {
         ensures state { self.new ≡ apply_deed self.old (By (End p)) }
         ensures room { length self.new.trace.marks ≤ length self.old.trace.marks + 3 }
     {
-        each_target_was_asked_for();
         let hop = self.switch.leave(p);
         self.procs.end(p);
         self.trace.push(&Mark::Ended(p));

@@ -11,7 +11,6 @@ ghost use Rattle.vt_world.specs.Refusals.{is_in_use};
 use crate::World;
 use vt_base::{CONSOLES, ConsoleNo};
 use vt_grid::Grid;
-use vt_switch::each_target_was_asked_for;
 
 impl World {
     /// Allocates the console, if it isn't allocated, with a start screen on this grid.
@@ -21,7 +20,6 @@ impl World {
         ensures world { self.new ≡ apply_deeds self.old (with_allocation c []) }
         ensures grid { grid.new ≡ grid_after_allocation (is_allocated self.old.display c) grid.old }
     {
-        each_target_was_asked_for();
         if self.switch.allocated(c) {
             return;
         }
@@ -55,7 +53,6 @@ impl World {
         requires { is_held self.old.display c ≡ false }
         ensures { self.new ≡ apply_deeds self.old (free_deeds c) }
     {
-        each_target_was_asked_for();
         self.switch.free(c);
         self.terminals.end(c);
         self.inputs.clear(c);

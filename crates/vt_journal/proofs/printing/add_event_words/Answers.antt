@@ -1,6 +1,7 @@
 use Rattle.std.proofs.Common.{◌<◌, ◌^◌, subst, ap, ◌∙◌, rules}
 use Rattle.std.specs.List.{All}
 use Rattle.std.specs.Prelude.{IfSome}
+use Rattle.vt_events.proofs.Stated.{parts_make_the_call}
 use Rattle.vt_events.specs.Calls.{PartsView}
 use Rattle.vt_journal.proofs.Spellings.{fit_meant}
 use Rattle.vt_journal.specs.Text.{Begins}
@@ -9,7 +10,7 @@ use Rattle.vt_journal.proofs.printing.add_event_words.Goals as goal
 
 pub returns-clause-fit : goal.returns-clause-fit
 returns-clause-fit c =
-    fit_meant c.args.e.now (c.parts_make_the_call.ensures c.args.e.now)
+    fit_meant c.args.e.now (parts_make_the_call c.args.e.now)
     (subst (All (λ n. n < 2 ^ 16)) (c.numbers.ensures ∙ ap (λ (p : PartsView). p.numbers) c.of-parts.ensures)
     c.add_named.ensures.fit)
     (subst (λ held. IfSome held (λ bytes. All (λ b. b < 2 ^ 8) bytes)) (c.held.ensures ∙ ap (λ (p : PartsView). p.held) c.of-parts.ensures)

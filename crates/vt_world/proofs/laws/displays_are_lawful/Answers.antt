@@ -1,16 +1,18 @@
+use Rattle.vt_switch.proofs.Stated.{each_target_was_asked_for-owners}
+use Rattle.vt_world.proofs.Stated.{displays_are_lawful-lawful, displays_are_lawful-waiting}
 use Rattle.vt_world.proofs.for_laws.Called.{acts_are_calls}
-use Rattle.vt_world.proofs.for_laws.Displays.{acts_make_cores, displays_are_lawful, owners_are_live, targets_are_explained}
+use Rattle.vt_world.proofs.for_laws.Displays.{acts_make_cores, owners_are_live}
 use Rattle.vt_world.proofs.for_laws.Traces.{traces_apply_marks_acts, traces_apply_marks_deeds, traces_apply_marks-hops}
 use Rattle.vt_world.proofs.laws.displays_are_lawful.Goals as goal
 
 pub returns-clause-lawful : goal.returns-clause-lawful
-returns-clause-lawful c = displays_are_lawful c.each_hop_was_allowed.ensures
+returns-clause-lawful c = displays_are_lawful-lawful
 
 pub returns-clause-waiting : goal.returns-clause-waiting
-returns-clause-waiting c = targets_are_explained c.each_target_was_asked_for.ensures.asked
+returns-clause-waiting c = displays_are_lawful-waiting
 
 pub returns-clause-owners : goal.returns-clause-owners
-returns-clause-owners c = owners_are_live c.each_target_was_asked_for.ensures.owners
+returns-clause-owners c = owners_are_live each_target_was_asked_for-owners
 
 pub returns-clause-acts : goal.returns-clause-acts
 returns-clause-acts c = acts_make_cores

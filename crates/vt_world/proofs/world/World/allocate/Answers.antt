@@ -1,5 +1,6 @@
 use Rattle.std.proofs.Common.{◌≡◌, [], ap, map, subst, sym, ◌∙◌}
 use Rattle.std.specs.Prelude.{is_some}
+use Rattle.vt_switch.proofs.Stated.{each_target_was_asked_for-owners}
 use Rattle.vt_world.proofs.Places.{allocated_alike, allocating_same}
 use Rattle.vt_switch.specs.Acts.{Allocate}
 use Rattle.vt_switch.specs.Display.{Display}
@@ -33,7 +34,7 @@ invariant_of-self c = record {
       c.self.inside.switch.consoles c.self.inside.terminals c.self.invariant.alike
       ∙ sym (ap (λ (d : Display). map is_some d.consoles) c.allocate.ensures);
   owners =
-      after_act c.each_target_was_asked_for.ensures.owners
+      after_act each_target_was_asked_for-owners
       (core_of c.self.inside.switch c.self.inside.procs) (core_of c.allocate.new.self c.self.inside.procs)
       (Allocate c.args.c)
       (ap (λ (d : Display). core_of d c.self.inside.procs) (sym c.allocate.ensures))

@@ -1,5 +1,6 @@
 use Rattle.std.proofs.Common.{refl, sym, ap, ◌∙◌}
 use Rattle.vt_procs.specs.Callers.{Callers}
+use Rattle.vt_switch.proofs.Stated.{each_target_was_asked_for-owners}
 use Rattle.vt_switch.specs.Acts.{End}
 use Rattle.vt_switch.specs.Display.{Display}
 use Rattle.vt_world.specs.Deeds.{after_switch_act}
@@ -19,7 +20,7 @@ invariant_of-self c =
           still_alike c.self.inside.terminals d c.leave-hop.new.self (End c.args.p) refl
           c.leave-hop.ensures.state c.self.invariant.alike;
       owners =
-          after_act c.each_target_was_asked_for.ensures.owners (core_of d callers)
+          after_act each_target_was_asked_for-owners (core_of d callers)
           (core_of c.leave-hop.new.self c.end.new.self) (End c.args.p)
           (end_core d callers c.args.p
           ∙ (λ i. core_of (sym c.leave-hop.ensures.state i) (sym c.end.ensures i)))

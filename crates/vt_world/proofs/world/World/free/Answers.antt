@@ -1,5 +1,6 @@
 use Rattle.std.proofs.Common.{List, Option, Bool, cond, map, sym, ap, ◌∙◌}
 use Rattle.std.specs.Prelude.{is_some}
+use Rattle.vt_switch.proofs.Stated.{each_target_was_asked_for-owners}
 use Rattle.vt_switch.specs.Acts.{Free}
 use Rattle.vt_switch.specs.Calls.{without_console, is_held}
 use Rattle.vt_switch.specs.Display.{Display}
@@ -18,7 +19,7 @@ invariant_of-self c =
           ∙ freed_alike c.args.c c.self.inside.terminals d c.self.invariant.alike
           ∙ sym (ap (λ (e : Display). map is_some e.consoles) c.free.ensures);
       owners =
-          after_act c.each_target_was_asked_for.ensures.owners (core_of d c.self.inside.procs)
+          after_act each_target_was_asked_for-owners (core_of d c.self.inside.procs)
           (core_of c.free.new.self c.self.inside.procs) (Free c.args.c)
           (ap (λ (held : Bool). core_of (cond held d (without_console d c.args.c)) c.self.inside.procs)
           (ap (λ (w : WorldState). is_held w.display c.args.c) c.self.view_is ∙ c.requires)

@@ -1,8 +1,9 @@
 use Rattle.std.proofs.Common.{refl}
+use Rattle.vt_switch.proofs.Stated.{each_target_was_asked_for-owners}
 use Rattle.vt_switch.specs.Acts.{Release}
 use Rattle.vt_world.proofs.Owners.{still_world}
 use Rattle.vt_world.proofs.world.World.release_console.Goals as goal
 
 pub invariant_of-self : goal.invariant_of-self
 invariant_of-self c =
-    still_world c.each_target_was_asked_for.ensures.owners (Release c.args.c c.args.p c.args.arg) refl refl c.release.ensures.state c.self.invariant
+    still_world each_target_was_asked_for-owners (Release c.args.c c.args.p c.args.arg) refl refl c.release.ensures.state c.self.invariant
