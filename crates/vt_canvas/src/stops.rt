@@ -77,10 +77,9 @@ fn are_same_columns(columns: &[bool], others: &[bool]) -> bool
     requires { length columns.now ≡ length others.now }
     ensures { IsTrue result → columns.now ≡ others.now }
 {
+    let mut same = true;
     for i in 0..columns.len() {
-        if columns[i] != others[i] {
-            return false;
-        }
+        same = same & (columns[i] == others[i]);
     }
-    true
+    same
 }

@@ -23,5 +23,12 @@ impl CharMap {
 fn are_same_words(words: &[u16], others: &[u16]) -> bool
     ensures { IsTrue result → words.now ≡ others.now }
 {
-    words == others
+    if words.len() != others.len() {
+        return false;
+    }
+    let mut same = true;
+    for i in 0..words.len() {
+        same = same & (words[i] == others[i]);
+    }
+    same
 }

@@ -19,12 +19,11 @@ fn are_same_places(places: &[Option<ConsoleNo>], others: &[Option<ConsoleNo>]) -
     requires { length places.now ≡ length others.now }
     ensures { IsTrue result → places.now ≡ others.now }
 {
+    let mut same = true;
     for i in 0..places.len() {
-        if !is_same_place(places[i], others[i]) {
-            return false;
-        }
+        same = same & is_same_place(places[i], others[i]);
     }
-    true
+    same
 }
 
 // Whether both places are the same.
