@@ -1,11 +1,12 @@
 -- The listing of key tables: a line of the tables that exist, a line for each entry that isn't a
 -- hole, for each string that isn't empty and for each pair.
-use Rattle.std.specs.Prelude.{ℕ, suc, ◌+◌, ◌/◌, ◌%◌, ◌==◌, nat_lt, cond, Option, Some, None, List, [], ◌∷◌, ◌++◌, codes, decimal}
+use Rattle.std.specs.Prelude.{ℕ, suc, ◌==◌, cond, Option, Some, None, List, [], ◌∷◌, ◌++◌, codes, decimal}
 use Rattle.std.specs.List.{flat_map}
 use Rattle.key_syms.specs.Act.{Act}
 use Rattle.key_syms.specs.Kinds.{HOLE}
 use Rattle.key_syms.specs.declared.pair.Pair.{Pair}
 use Rattle.key_tables.specs.Tables.{Tables}
+use Rattle.vt_base.specs.Digits.{hex_byte}
 
 -- the texts of the items, each by its index
 abbrev pub texts_from : {X : Type 0} → (ℕ → X → List ℕ) → ℕ → List X → List ℕ
@@ -35,14 +36,6 @@ entry_text t c a =
 abbrev pub map_text : ℕ → Option (List Act) → List ℕ
 map_text t None = []
 map_text t (Some map) = texts_from (entry_text t) 0 map
-
--- a hexadecimal digit in lower case
-abbrev pub hex_digit : ℕ → ℕ
-hex_digit d = cond (nat_lt d 10) (0x30 + d) (0x57 + d)
-
--- a byte as two hexadecimal digits
-abbrev pub hex_byte : ℕ → List ℕ
-hex_byte b = hex_digit (b / 16) ∷ hex_digit (b % 16) ∷ []
 
 -- `func I B`, if the string isn't empty
 abbrev pub func_text : ℕ → List ℕ → List ℕ

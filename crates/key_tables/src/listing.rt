@@ -1,12 +1,11 @@
 //! The listing of key tables.
 ghost use Rattle.std.specs.Prelude.{◌≡◌, ◌++◌, ◌≤◌, [], cond, length, OnOk};
 ghost use Rattle.std.specs.List.{flat_map};
-ghost use Rattle.key_tables.specs.Listing.{entry_text, func_text, hex_byte, hex_digit, listing_of, map_text, maps_text, number_text, numbers_line, pair_text, texts_from};
+ghost use Rattle.key_tables.specs.Listing.{entry_text, func_text, listing_of, map_text, maps_text, number_text, numbers_line, pair_text, texts_from};
 ghost use Rattle.key_tables.specs.Tables.{tables_of};
 
 use crate::func_text::FuncText;
 use crate::maps::Maps;
-use itoa::Buffer;
 use key_syms::{Action, Pair, TABLE_COUNT, kind};
 use std::alloc::Global;
 use vt_base::{Bytes, NoMemory};
@@ -36,11 +35,11 @@ fn add_maps(alloc: Global, text: &mut Bytes, maps: &Maps) -> Result<(), NoMemory
     requires { length maps.now ≡ 256 }
     ensures { OnOk result (text.new.bytes ≡ text.old.bytes ++ maps_text maps.now) }
 {
-    add(alloc, text, b"maps")?;
+    text.add(alloc, b"maps")?;
     for t in 0..TABLE_COUNT as u16 {
         add_table(alloc, text, t, maps.exists(t as u8))?;
     }
-    add(alloc, text, b"\n")
+    text.add(alloc, b"\n")
 }
 
 fn add_table(alloc: Global, text: &mut Bytes, t: u16, exists: bool) -> Result<(), NoMemory>
@@ -101,27 +100,11 @@ fn add_func(alloc: Global, text: &mut Bytes, i: u16, func: &[u8]) -> Result<(), 
     if func.is_empty() {
         return Ok(());
     }
-    add(alloc, text, b"func")?;
+    text.add(alloc, b"func")?;
     add_number(alloc, text, i)?;
-    add(alloc, text, b" ")?;
-    add_hex(alloc, text, func)?;
-    add(alloc, text, b"\n")
-}
-
-fn add_hex(alloc: Global, text: &mut Bytes, bytes: &[u8]) -> Result<(), NoMemory>
-    ensures { OnOk result (text.new.bytes ≡ text.old.bytes ++ flat_map hex_byte bytes.now) }
-{
-    for b in bytes {
-        add(alloc, text, &[hex_digit(*b / 16), hex_digit(*b % 16)])?;
-    }
-    Ok(())
-}
-
-fn hex_digit(d: u8) -> u8
-    requires { d ≤ 15 }
-    ensures { result ≡ hex_digit d }
-{
-    if d < 10 { b'0' + d } else { b'a' + (d - 10) }
+    text.add(alloc, b" ")?;
+    text.add_hex(alloc, func)?;
+    text.add(alloc, b"\n")
 }
 
 // Adds a line for each pair.
@@ -144,26 +127,16 @@ fn add_line(alloc: Global, text: &mut Bytes, word: &[u8], numbers: &[u16]) -> Re
     ensures { OnOk result
         (text.new.bytes ≡ text.old.bytes ++ numbers_line word.now numbers.now) }
 {
-    add(alloc, text, word)?;
+    text.add(alloc, word)?;
     for n in numbers {
         add_number(alloc, text, *n)?;
     }
-    add(alloc, text, b"\n")
+    text.add(alloc, b"\n")
 }
 
 fn add_number(alloc: Global, text: &mut Bytes, n: u16) -> Result<(), NoMemory>
     ensures { OnOk result (text.new.bytes ≡ text.old.bytes ++ number_text n) }
 {
-    let mut buffer = Buffer::new();
-    add(alloc, text, b" ")?;
-    add(alloc, text, buffer.format(n).as_bytes())
-}
-
-// Appends the bytes, with room for them.
-fn add(alloc: Global, text: &mut Bytes, b: &[u8]) -> Result<(), NoMemory>
-    ensures { OnOk result (text.new.bytes ≡ text.old.bytes ++ b.now) }
-{
-    text.grow(alloc, b.len())?;
-    text.append(b);
-    Ok(())
+    text.add(alloc, b" ")?;
+    text.add_decimal(alloc, u64::from(n))
 }

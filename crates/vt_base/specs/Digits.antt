@@ -1,5 +1,5 @@
 -- Hexadecimal digits.
-use Rattle.std.specs.Prelude.{ℕ, ◌-◌, Option, Some, None, ◌&&◌, nat_le, if◌then◌else◌}
+use Rattle.std.specs.Prelude.{ℕ, ◌+◌, ◌-◌, ◌/◌, ◌%◌, Option, Some, None, ◌&&◌, nat_le, nat_lt, List, [], ◌∷◌, if◌then◌else◌}
 
 -- the value of a hexadecimal digit with its letters in lower case
 abbrev pub lower_hex_value : ℕ → Option ℕ
@@ -11,3 +11,11 @@ lower_hex_value b =
 -- the value of a hexadecimal digit with its letters in either case
 abbrev pub hex_value : ℕ → Option ℕ
 hex_value b = if nat_le 0x41 b && nat_le b 0x46 then Some (b - 0x37) else lower_hex_value b
+
+-- the hexadecimal digit of a number below 16, in lower case
+abbrev pub hex_digit : ℕ → ℕ
+hex_digit n = if nat_lt n 10 then 0x30 + n else 0x57 + n
+
+-- the two digits of a byte
+abbrev pub hex_byte : ℕ → List ℕ
+hex_byte b = hex_digit (b / 16) ∷ hex_digit (b % 16) ∷ []

@@ -2,6 +2,7 @@
 //! error for memory that ran out.
 #![tactic(auto)]
 
+mod adding;
 mod bytes;
 mod caller_no;
 mod console_no;
@@ -26,7 +27,7 @@ pub use caller_no::CallerNo;
 pub use console_no::ConsoleNo;
 pub use console_set::is_among;
 pub use decimal::parse_decimal;
-pub use digits::{hex_value, lower_hex_value};
+pub use digits::{hex_digit, hex_value, lower_hex_value};
 pub use errno::Errno;
 pub use fd::Fd;
 pub use inval::Inval;

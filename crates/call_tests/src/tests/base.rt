@@ -2,8 +2,8 @@
 use super::checks::{check, check_made};
 use std::alloc::Global;
 use vt_base::{
-    Bytes, CallerNo, ConsoleNo, Errno, Inval, NoMemory, SigSet, Signal, hex_value, lower_hex_value,
-    parse_decimal,
+    Bytes, CallerNo, ConsoleNo, Errno, Inval, NoMemory, SigSet, Signal, hex_digit, hex_value,
+    lower_hex_value, parse_decimal,
 };
 
 // Places in the list of all consoles, and their numbers.
@@ -83,6 +83,16 @@ fn hexadecimal_digits_are_read(rt: HostRuntime) {
     for &(b, either, lower) in DIGITS {
         let is_read = hex_value(b) == either && lower_hex_value(b) == lower;
         check(&rt, is_read, u32::from(b));
+    }
+}
+
+// Numbers below 16, and their digits.
+const SPELLED: &[(u8, u8)] = &[(0, b'0'), (9, b'9'), (10, b'a'), (15, b'f')];
+
+#[test]
+fn hexadecimal_digits_are_written(rt: HostRuntime) {
+    for &(n, digit) in SPELLED {
+        check(&rt, hex_digit(n.min(15)) == digit, u32::from(n));
     }
 }
 
@@ -171,6 +181,58 @@ fn has_room(alloc: Global) -> Result<bool, NoMemory> {
 fn grows_by_what_is_asked(rt: HostRuntime) {
     check_made(&rt, grows(rt.alloc()), "a text that grew");
     check_made(&rt, has_room(rt.alloc()), "a text with room");
+}
+
+// Numbers, and their digits after a letter.
+const DECIMALS: &[(u64, &[u8])] = &[
+    (0, b"n0"),
+    (9, b"n9"),
+    (10, b"n10"),
+    (255, b"n255"),
+    (65_535, b"n65535"),
+    (18_446_744_073_709_551_615, b"n18446744073709551615"),
+];
+
+fn is_decimal(alloc: Global, n: u64, wanted: &[u8]) -> Result<bool, NoMemory> {
+    let mut text = Bytes::from_slice(alloc, b"n")?;
+    text.add_decimal(alloc, n)?;
+    Ok(text.as_slice() == wanted)
+}
+
+#[test]
+fn numbers_are_added(rt: HostRuntime) {
+    for &(n, wanted) in DECIMALS {
+        check_made(&rt, is_decimal(rt.alloc(), n, wanted), wanted);
+    }
+}
+
+// Bytes, their text, and their hexadecimal text, each after a letter.
+const ADDED: &[(&[u8], &[u8], &[u8])] = &[
+    (b"", b"h", b"h"),
+    (b"\x00", b"h\x00", b"h00"),
+    (b"\x09\x0A", b"h\x09\x0A", b"h090a"),
+    (b"\xFF", b"h\xFF", b"hff"),
+    (b"\xFF\xFF", b"h\xFF\xFF", b"hffff"),
+];
+
+fn is_appended(alloc: Global, b: &[u8], wanted: &[u8]) -> Result<bool, NoMemory> {
+    let mut text = Bytes::from_slice(alloc, b"h")?;
+    text.add(alloc, b)?;
+    Ok(text.as_slice() == wanted)
+}
+
+fn is_hexadecimal(alloc: Global, b: &[u8], wanted: &[u8]) -> Result<bool, NoMemory> {
+    let mut text = Bytes::from_slice(alloc, b"h")?;
+    text.add_hex(alloc, b)?;
+    Ok(text.as_slice() == wanted)
+}
+
+#[test]
+fn bytes_are_added(rt: HostRuntime) {
+    for &(b, wanted, digits) in ADDED {
+        check_made(&rt, is_appended(rt.alloc(), b, wanted), wanted);
+        check_made(&rt, is_hexadecimal(rt.alloc(), b, digits), digits);
+    }
 }
 
 // The texts of errno(3), as glibc's strerror(3) gives them.
