@@ -110,12 +110,12 @@ fn put_row(cells: &[Cell], places: &mut [VtCell], n: usize) -> usize
     ensures { (more : List VtCell) → filled result more places.new
         ≡ filled n (map c_cell cells.now ++ more) places.old }
 {
-    let mut n = n;
-    for cell in cells {
-        if n < places.len() {
-            places[n] = VtCell::of(*cell);
-            n += 1;
-        }
+    if places.len() <= n {
+        return n;
     }
-    n
+    let count = cells.len().min(places.len() - n);
+    for i in 0..count {
+        places[n + i] = VtCell::of(cells[i]);
+    }
+    n + count
 }
