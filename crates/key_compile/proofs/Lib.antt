@@ -1,5 +1,6 @@
 pub mod Alt
 pub mod Marking
+pub mod Stated
 pub mod Steps
 pub mod Texts
 pub mod Whole

@@ -85,7 +85,7 @@ impl HeldKeys {
     {
         self.has_bytes(from);
         for code in 0..KEYCODES {
-            let _ = self.release(from, code as u8);
+            let _ = self.release(from, code as u8); // the result has no use here
         }
     }
 

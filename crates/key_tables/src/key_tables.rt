@@ -128,7 +128,7 @@ impl KeyTables {
         self.pairs.clear();
         let kept = self.pairs.extend_from_slice(pairs);
         prove!(kept.is_ok());
-        let _ = kept;
+        let _ = kept; // only the proof reads it
     }
 
     /// The pairs in order.

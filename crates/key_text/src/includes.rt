@@ -96,7 +96,7 @@ fn add_last(texts: &mut Vec<Included>, included: Included)
 {
     let kept = texts.push(included);
     prove!(kept.is_ok());
-    let _ = kept;
+    let _ = kept; // only the proof reads it
 }
 
 fn text_at<'a>(texts: &'a [Included], place: usize) -> &'a [u8]

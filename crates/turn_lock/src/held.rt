@@ -82,7 +82,7 @@ fn show<K: Kept, J: Adding<K::What>>(lock: &TurnLock<K>, pass: &mut Pass<K>, val
     ensures own { HasTurnIn lock.now pass.new }
     ensures view { view pass.new ≡ with_published (K.entries value.now) (view pass.old) }
 {
-    let _ = value;
+    let _ = value; // opens the value
     lock.board
         .shared
         .store::<StoreFront<J>>(&mut pass.place, FRONT, front);

@@ -142,7 +142,7 @@ impl<K: Kept> TurnLock<K> {
     fn stand_aside<R: Wait>(&self, rt: &R, p: &Pass<K>)
         requires { RestsIn self.now p.now }
     {
-        let _ = p;
+        let _ = p; // opens the pass
         for _ in 0..LOOKS {
             if !self.is_busy() {
                 return;

@@ -72,7 +72,7 @@ impl Bytes {
     {
         let added = self.items.extend_from_slice(b);
         prove!(added.is_ok());
-        let _ = added;
+        let _ = added; // only the proof reads it
         self.room -= b.len();
     }
 
@@ -84,7 +84,7 @@ impl Bytes {
     {
         let added = self.items.push(b);
         prove!(added.is_ok());
-        let _ = added;
+        let _ = added; // only the proof reads it
         self.room -= 1;
     }
 
@@ -105,7 +105,7 @@ impl Bytes {
         ensures ok { OnOk result (self.new.room ≡ max self.old.room n) }
         ensures err { OnErr result ((self.old.room < n) × (self.new ≡ self.old)) }
     {
-        let _ = alloc;
+        let _ = alloc; // the bytes have theirs
         if n <= self.room {
             return Ok(());
         }

@@ -62,7 +62,7 @@ impl<T: Copy, const MOST: usize> ShortList<T, MOST> {
     {
         let kept = self.items.try_extend_from_slice(items);
         prove!(kept.is_ok());
-        let _ = kept;
+        let _ = kept; // only the proof reads it
     }
 }
 

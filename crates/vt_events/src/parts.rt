@@ -123,7 +123,7 @@ fn make_parts<'a>(kind: Kind, numbers: &[u16], held: Option<&'a [u8]>) -> Parts<
     let mut kept = ArrayVec::new();
     let added = kept.try_extend_from_slice(numbers);
     prove!(added.is_ok());
-    let _ = added;
+    let _ = added; // only the proof reads it
     Parts {
         kind,
         numbers: kept,

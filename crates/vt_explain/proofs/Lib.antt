@@ -7,3 +7,4 @@ mod Knowing
 mod Listening
 mod Places
 mod Printed
+pub mod Stated

@@ -45,7 +45,7 @@ impl Cursor {
         ensures rest { self.new ≡ drop 1 self.old }
     {
         let mut next = [0];
-        let _ = self.read(&mut next);
+        let _ = self.read(&mut next); // at the end the byte stays 0
         next[0] != 0
     }
 }

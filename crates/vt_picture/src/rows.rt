@@ -48,7 +48,6 @@ fn add_row(
     ensures { OnOk result
         (text.new.bytes ≡ text.old.bytes ++ runs_text state.now y 0 (runs (row_at g.now y))) }
 {
-    g.stays_full();
     let cols = g.size().cols;
     let mut x = 0;
     while x < cols {

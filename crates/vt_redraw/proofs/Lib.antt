@@ -11,4 +11,5 @@ mod Pendings
 mod Prints
 mod Rows
 mod Sheets
+pub mod Stated
 mod for_laws

@@ -23,7 +23,6 @@ pub fn redrawable(emu: &Emu) -> bool
 pub(crate) fn are_rows_drawable(g: &Grid) -> bool
     ensures { result ≡ list_all is_row_drawable g.now.cells }
 {
-    g.stays_full();
     for y in 0..g.size().rows {
         if !is_row_drawable(g, y) {
             return false;

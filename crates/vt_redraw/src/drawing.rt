@@ -10,7 +10,7 @@ ghost use Rattle.vt_canvas.specs.Screen.{IsWhole, Screen};
 use crate::cells::add_row;
 use crate::drawable::redrawable;
 use crate::filled_rows::add_rows_but;
-use crate::laws::{near_is_drawn, redraws_are_short, screens_redraw};
+use crate::laws::{near_is_drawn, screens_redraw};
 use crate::modes::{add_clearing, add_setting};
 use crate::nearest::near;
 use crate::state::add_state;
@@ -37,7 +37,6 @@ pub fn redraw(alloc: Global, emu: &Emu) -> Result<Bytes, NoMemory>
         (λ text. length text.bytes ≤ redraw_most emu.now.state.grid.rows emu.now.state.grid.cols) }
 {
     screens_redraw();
-    redraws_are_short();
     stays_stored(emu);
     let text = whole_text(alloc, emu)?;
     Ok(text)
@@ -56,7 +55,6 @@ pub fn redraw_changes(alloc: Global, old: &Grid, emu: &Emu) -> Result<Bytes, NoM
         (λ text. length text.bytes ≤ redraw_most emu.now.state.grid.rows emu.now.state.grid.cols) }
 {
     screens_redraw();
-    redraws_are_short();
     stays_stored(emu);
     let text = changes_text(alloc, old, emu)?;
     Ok(text)
@@ -81,6 +79,7 @@ pub fn redraw_near(alloc: Global, emu: &Emu) -> Result<Bytes, NoMemory>
 }
 
 /// The text of [`redraw_changes`] for the nearest screen that a text can draw. This project's own.
+#[tactic(auto, using(crate::proofs::for_laws::Nearby::screen_stays))]
 pub fn redraw_changes_near(alloc: Global, old: &Grid, emu: &Emu) -> Result<Bytes, NoMemory>
     requires { IsSameSize old.now emu.now.state.grid }
     ensures text { IfOk result (λ text. text.bytes ≡ changes_of old.now (near emu.now.state)) }
@@ -90,7 +89,6 @@ pub fn redraw_changes_near(alloc: Global, old: &Grid, emu: &Emu) -> Result<Bytes
     ensures short { IfOk result
         (λ text. length text.bytes ≤ redraw_most emu.now.state.grid.rows emu.now.state.grid.cols) }
 {
-    near_is_drawn();
     if redrawable(emu) {
         return redraw_changes(alloc, old, emu);
     }
@@ -130,7 +128,6 @@ fn add_changed_rows(alloc: Global, text: &mut Bytes, old: &Grid, g: &Grid) -> Re
     ensures { OnOk result (text.new.bytes
         ≡ text.old.bytes ++ changed_rows 0 old.now.cells g.now.cells) }
 {
-    g.stays_full();
     old.stays_full();
     for y in 0..g.size().rows {
         if !old.is_row_same(g, y) {

@@ -20,7 +20,6 @@ pub(crate) fn add_rows_but(
         ≡ text.old.bytes
         ++ changed_rows 0 (replicate g.now.rows (replicate g.now.cols c)) g.now.cells) }
 {
-    g.stays_full();
     for y in 0..g.size().rows {
         if !is_row_filled(g, y, c) {
             add_row(alloc, text, g, y)?;

@@ -7,8 +7,6 @@ ghost use Rattle.vt_redraw.specs.Parts.{RedrawsUseRows};
 ghost use Rattle.vt_redraw.specs.Reached.{StatesAreDrawable, TapeCellsAreDrawable, TapeStatesAreDrawable};
 ghost use Rattle.vt_redraw.specs.Redraw.{ChangesRedraw, ScreensRedraw};
 
-use vt_cells::columns_are_few;
-use vt_screen::{pieces_draw, tapes_keep_characters};
 use vt_units::{controls_are_units, printables_are_characters, sequences_are_units};
 
 /// The text of a redrawable screen draws it again on every screen of its size, and the text of the rows that differ
@@ -17,8 +15,6 @@ pub fn screens_redraw()
     ensures screens { ScreensRedraw }
     ensures changes { ChangesRedraw }
 {
-    columns_are_few();
-    pieces_draw();
     controls_are_units();
     printables_are_characters();
     sequences_are_units();
@@ -42,9 +38,7 @@ pub fn states_are_drawable()
 /// no word of the user's table takes two columns.
 pub fn cells_are_drawable()
     ensures { TapeCellsAreDrawable }
-{
-    tapes_keep_characters();
-}
+{}
 
 /// The nearest screen is drawable, and its text draws it. Its cells are those of the screen except the ones that are
 /// replaced, a drawable screen stays, and a screen of which nothing is left out is drawable.
@@ -56,7 +50,6 @@ pub fn near_is_drawn()
     ensures parts { NothingIsLeftOut }
 {
     screens_redraw();
-    columns_are_few();
 }
 
 /// How long the texts of redraws are at most.

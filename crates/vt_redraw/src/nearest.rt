@@ -10,7 +10,6 @@ ghost use Rattle.vt_units.specs.Rest.{fresh, start_mode};
 ghost use Rattle.vt_units.specs.Run.{make_reached};
 
 use crate::drawable::is_glyph;
-use crate::laws::near_is_drawn;
 use crate::near_state::near_state;
 use crate::stored::stays_stored;
 use std::alloc::Global;
@@ -30,7 +29,6 @@ pub fn near(alloc: Global, emu: &Emu) -> Result<Emu, NoMemory>
     ensures screen { IfOk result (λ shown. shown ≡ make_reached (near emu.now.state) (fresh start_mode)) }
     ensures drawable { IfOk result (λ shown. IsTrue (is_redrawable shown.state)) }
 {
-    near_is_drawn();
     stays_stored(emu);
     let size = emu.grid().size();
     let grid = near_grid(alloc, emu.grid())?;
@@ -43,7 +41,6 @@ fn near_grid(alloc: Global, g: &Grid) -> Result<Grid, NoMemory>
     ensures cells { IfOk result (λ shown. shown ≡ record g.now { cells = map near_row g.now.cells }) }
     ensures bytes { IfOk result (λ _shown. All (All (λ (c : Cell). c.attr < 256)) g.now.cells) }
 {
-    g.stays_full();
     let mut shown = Grid::blank(alloc, g.size(), BLANK)?;
     for y in 0..g.size().rows {
         draw_row(&mut shown, g, y);
@@ -58,7 +55,6 @@ fn draw_row(shown: &mut Grid, g: &Grid, y: u8)
     ensures row { shown.new ≡ with_row shown.old y (near_row (row_at g.now y)) }
     ensures bytes { All (λ (c : Cell). c.attr < 256) (row_at g.now y) }
 {
-    g.stays_full();
     shown.stays_full();
     let cols = g.size().cols;
     let mut is_half = false;

@@ -1,9 +1,9 @@
 //! The invariant of each stored screen. These calls do nothing; they are made for their clauses.
-ghost use Rattle.std.specs.Prelude.{◌≡◌, ◌<◌, ◌≤◌, All, length};
-ghost use Rattle.vt_cells.specs.Colours.{Rgb};
+ghost use Rattle.std.specs.Prelude.{◌≡◌, ◌<◌, length};
+ghost use Rattle.vt_cells.specs.Colours.{AreBytes};
 ghost use Rattle.vt_redraw.specs.Redraw.{IsStored};
 
-use vt_cells::{Look, Palette};
+use vt_cells::Look;
 use vt_screen::{Emu, Stops};
 use vt_sgr::Pen;
 
@@ -25,10 +25,10 @@ fn stops_stay(emu: &Emu)
 
 fn colours_stay(emu: &Emu)
     ensures many { length emu.now.state.state.palette ≡ 16 }
-    ensures parts { All (λ (rgb : Rgb). (rgb.0 < 256) × (rgb.1 < 256) × (rgb.2 < 256))
-        emu.now.state.state.palette }
+    ensures parts { AreBytes emu.now.state.state.palette }
 {
-    palette_stays(&emu.state().palette);
+    // The clauses of `as_slice` are the facts.
+    let _ = emu.state().palette.as_slice();
 }
 
 fn look_stays(emu: &Emu)
@@ -41,30 +41,8 @@ fn look_stays(emu: &Emu)
 fn count_stays(stops: &Stops)
     ensures { length stops.now ≡ 255 }
 {
+    // The bounds of `has` are those of the stops.
     let _ = stops.has(0);
-}
-
-fn palette_stays(palette: &Palette)
-    ensures many { length palette.now ≡ 16 }
-    ensures parts { All (λ (rgb : Rgb). (rgb.0 < 256) × (rgb.1 < 256) × (rgb.2 < 256)) palette.now }
-{
-    parts_stay(palette.as_slice());
-}
-
-fn parts_stay(colours: &[(u8, u8, u8)])
-    ensures { All (λ (rgb : Rgb). (rgb.0 < 256) × (rgb.1 < 256) × (rgb.2 < 256)) colours.now }
-{
-    for rgb in colours {
-        byte_stays(rgb.0);
-        byte_stays(rgb.1);
-        byte_stays(rgb.2);
-    }
-}
-
-fn byte_stays(n: u8)
-    ensures { n < 256 }
-{
-    let _ = n;
 }
 
 fn pen_stays(p: &Pen)

@@ -9,6 +9,7 @@ mod Made
 mod Numbers
 mod Oks
 mod Sessions
+pub mod Stated
 mod Statuses
 pub mod Streams
 mod Typed

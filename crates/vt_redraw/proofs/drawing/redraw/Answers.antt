@@ -1,4 +1,5 @@
 use Rattle.std.proofs.Common.{◌≤◌, List, ℕ, length, sym, subst}
+use Rattle.vt_redraw.proofs.Stated.{redraws_are_short}
 use Rattle.vt_redraw.specs.Lengths.{redraw_most}
 use Rattle.vt_redraw.specs.Redraw.{Redraws}
 use Rattle.vt_redraw.proofs.drawing.redraw.Goals as goal
@@ -13,4 +14,4 @@ pub returns-clause-short : goal.returns-clause-short
 returns-clause-short c =
     let s = c.args.emu.now.state in
     subst (λ (text : List ℕ). length text ≤ redraw_most s.grid.rows s.grid.cols) (sym c.in_ok-text.ensures)
-    (c.redraws_are_short.ensures s c.stays_stored.ensures c.requires).0
+    (redraws_are_short s c.stays_stored.ensures c.requires).0

@@ -1,4 +1,5 @@
 use Rattle.std.proofs.Common.{◌≤◌, List, ℕ, length, sym, subst, ap, ◌∙◌}
+use Rattle.vt_redraw.proofs.Stated.{redraws_are_short}
 use Rattle.vt_redraw.specs.Lengths.{redraw_most}
 use Rattle.vt_grid.specs.Grid.{GridView}
 use Rattle.vt_redraw.specs.Redraw.{IsSameSize, Redraws, changes_of}
@@ -17,4 +18,4 @@ pub returns-clause-short : goal.returns-clause-short
 returns-clause-short c =
     let s = c.args.emu.now.state in
     subst (λ (text : List ℕ). length text ≤ redraw_most s.grid.rows s.grid.cols) (sym c.in_ok-text.ensures)
-    ((c.redraws_are_short.ensures s c.stays_stored.ensures c.requires.redrawable).1 c.args.old.now)
+    ((redraws_are_short s c.stays_stored.ensures c.requires.redrawable).1 c.args.old.now)

@@ -1,5 +1,12 @@
+use Rattle.vt_cells.proofs.Stated.{columns_are_few-low, columns_are_few-plain, columns_are_few-private}
+use Rattle.vt_cells.proofs.Stated.{columns_are_few-worked}
 use Rattle.vt_redraw.proofs.for_laws.ReachedCells.{tape_cells_are_drawable}
+use Rattle.vt_screen.proofs.for_laws.TapeCharacters.{tapes_keep_characters}
+use Rattle.vt_units.proofs.Stated.{texts_spell_characters}
 use Rattle.vt_redraw.proofs.laws.cells_are_drawable.Goals as goal
 
 pub returns : goal.returns
-returns c = tape_cells_are_drawable c.tapes_keep_characters.ensures
+returns c =
+    tape_cells_are_drawable
+    (tapes_keep_characters columns_are_few-low columns_are_few-plain columns_are_few-private columns_are_few-worked
+    texts_spell_characters)

@@ -20,9 +20,9 @@ loop-x-preserved c =
     let cell : Cell = c.draw_cell-is_half.ensures.cell.0 in
     let found : drop x news ≡ cell ∷ rest = c.loop-x.invariant.rest ∙ c.draw_cell-is_half.ensures.cell.2 in
     let wide : length row ≡ c.args.g.now.cols =
-    c.stays_full.ensures.full.wide c.args.y [] (omega (arith, c.requires.row, c.stays_full.ensures.full.tall)) in
+    c.size-cols.ensures.full.wide c.args.y [] (omega (arith, c.requires.row, c.size-cols.ensures.full.tall)) in
     let same : length olds ≡ start.cols =
-    c.stays_full-2.ensures.full.wide c.args.y [] (omega (arith, c.requires.row, c.requires.size.0, c.stays_full-2.ensures.full.tall)) in
+    c.stays_full.ensures.full.wide c.args.y [] (omega (arith, c.requires.row, c.requires.size.0, c.stays_full.ensures.full.tall)) in
     let within : x < length row = omega (arith, wide, c.loop-x-test.true, c.size-cols.ensures.cols) in
     record {
       within = omega (arith, c.loop-x-test.true, c.size-cols.ensures.cols);
@@ -31,7 +31,7 @@ loop-x-preserved c =
           c.draw_cell-is_half.ensures.cell.1
           ∙ ap (λ (g : GridView). with_cell g c.args.y x cell) c.loop-x.invariant.done
           ∙ cell_in_row start c.args.y x (mixed x news olds) cell
-          (omega (arith, c.requires.row, c.requires.size.0, c.stays_full-2.ensures.full.tall))
+          (omega (arith, c.requires.row, c.requires.size.0, c.stays_full.ensures.full.tall))
           ∙ ap (with_row start c.args.y)
           (sym (mixed_more x news olds cell rest found (omega (arith, within, wide, same, c.requires.size.1))));
       bytes =
@@ -44,7 +44,7 @@ pub returns-clause-bytes : goal.returns-clause-bytes
 returns-clause-bytes c =
     let row : List Cell = row_at c.args.g.now c.args.y in
     let wide : length row ≡ c.args.g.now.cols =
-    c.stays_full.ensures.full.wide c.args.y [] (omega (arith, c.requires.row, c.stays_full.ensures.full.tall)) in
+    c.size-cols.ensures.full.wide c.args.y [] (omega (arith, c.requires.row, c.size-cols.ensures.full.tall)) in
     subst (All (λ (d : Cell). d.attr < 256))
     (take_all c.loop-x.x row (omega (arith, wide, c.loop-x-test.false, c.size-cols.ensures.cols)))
     c.loop-x.invariant.bytes

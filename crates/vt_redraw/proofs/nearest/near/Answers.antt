@@ -4,6 +4,7 @@ use Rattle.vt_canvas.specs.Screen.{IsWhole, Screen}
 use Rattle.vt_canvas.specs.declared.screen_state.ScreenState.{ScreenState}
 use Rattle.vt_cells.specs.declared.cell.Cell.{Cell}
 use Rattle.vt_grid.specs.Grid.{GridView}
+use Rattle.vt_redraw.proofs.Stated.{near_is_drawn-drawn}
 use Rattle.vt_redraw.proofs.for_laws.Nearby.{near_stored}
 use Rattle.vt_redraw.specs.Drawable.{is_redrawable}
 use Rattle.vt_redraw.specs.Near.{near, near_row, near_state}
@@ -41,6 +42,6 @@ returns-clause-drawable c =
     (c.size-size.ensures.rows ∙ ap (λ (g : GridView). g.rows) c.grid.ensures.cells)
     (c.size-size.ensures.cols ∙ ap (λ (g : GridView). g.cols) c.grid.ensures.cells) c.state.ensures.state
     c.near_state-state.ensures))
-    (c.near_is_drawn.ensures.drawn s
+    (near_is_drawn-drawn s
     (subst (λ (g : GridView). All (All (λ (d : Cell). d.attr < 256)) g.cells) c.grid-2.ensures.cells c.in_ok-grid.ensures.bytes)
     (omega (arith, c.stays_stored.ensures.whole.row)) (omega (arith, c.stays_stored.ensures.whole.column)))

@@ -17,13 +17,13 @@ loop-y-preserved c =
     let news : List (List Cell) = map near_row rows in
     let olds : List (List Cell) = replicate g.rows (replicate g.cols start_blank) in
     let row : List Cell = get_or rows y [] in
-    let within : y < length rows = omega (arith, c.loop-y-test.true, c.size-y-end.ensures.rows, c.stays_full.ensures.full.tall) in
+    let within : y < length rows = omega (arith, c.loop-y-test.true, c.size-y-end.ensures.rows, c.size-y-end.ensures.full.tall) in
     let found : drop y news ≡ near_row row ∷ drop (y + 1) news =
     drop_more news y [] (omega (arith, within, length-map rows near_row))
     ∙ ap (λ (r : List Cell). r ∷ drop (y + 1) news) (get_or-map near_row rows y [] [] within) in
     let grown : mixed (y + 1) news olds ≡ set (mixed y news olds) y (near_row row) =
     mixed_more y news olds (near_row row) (drop (y + 1) news) found
-    (omega (arith, within, length-replicate g.rows (replicate g.cols start_blank), c.stays_full.ensures.full.tall)) in
+    (omega (arith, within, length-replicate g.rows (replicate g.cols start_blank), c.size-y-end.ensures.full.tall)) in
     record {
       done =
           c.draw_row.ensures.row
@@ -38,5 +38,5 @@ loop-y-preserved c =
 pub returns-clause-bytes : goal.returns-clause-bytes
 returns-clause-bytes c =
     subst (All (All (λ (d : Cell). d.attr < 256)))
-    (take_all c.loop-y.y c.args.g.now.cells (omega (arith, c.loop-y-test.false, c.size-y-end.ensures.rows, c.stays_full.ensures.full.tall)))
+    (take_all c.loop-y.y c.args.g.now.cells (omega (arith, c.loop-y-test.false, c.size-y-end.ensures.rows, c.size-y-end.ensures.full.tall)))
     c.loop-y.invariant.bytes
