@@ -1,6 +1,6 @@
 -- The code and the keyboard after a call that changes a keyboard, and what a call that reads one writes.
 use Rattle.std.specs.Prelude.{◌≡◌, ℕ, Bool, cond, Option, Some, None}
-use Rattle.keys_c.specs.Codes.{NOTHING, OK, RANGE}
+use Rattle.c_calls.specs.Codes.{NOTHING, OK, RANGE}
 use Rattle.keys_c.specs.KeyboardView.{KeyboardView}
 
 -- the keyboard changes if there is one and it takes the numbers

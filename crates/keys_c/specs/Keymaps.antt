@@ -11,7 +11,7 @@ use Rattle.key_text.specs.declared.fault.KeyError.{KeyError}
 use Rattle.key_text.specs.declared.fault.KeyError.TheVariants as errors
 use Rattle.key_text.specs.declared.fault.KeyFault.{KeyFault}
 use Rattle.keys_c.specs.KeyboardView.{KeyboardView, start_keyboard}
-use Rattle.keys_c.specs.declared.vt_fault.VtFault.{VtFault}
+use Rattle.c_calls.specs.declared.vt_fault.VtFault.{VtFault}
 use Rattle.keys_c.specs.declared.vt_text.VtText.{VtText}
 
 -- the texts that C gives, after those that are there; of two texts with the same name the first counts

@@ -1,6 +1,5 @@
 pub mod Actions
 pub mod Answers
-pub mod Codes
 pub mod KeyOuts
 pub mod KeyState
 pub mod KeyboardView

@@ -2,7 +2,7 @@
 use Rattle.std.specs.Prelude.{ℕ, ◌==◌, Bool, not, replicate}
 use Rattle.std.specs.Str.{bytes_eq}
 use Rattle.key_machine.specs.declared.key_modes.KeyModes.{KeyModes}
-use Rattle.keys_c.specs.declared.vt_modes.VtModes.{VtModes}
+use Rattle.c_calls.specs.declared.vt_modes.VtModes.{VtModes}
 
 -- a mode is a number in C: 0 is off
 abbrev pub is_set : ℕ → Bool

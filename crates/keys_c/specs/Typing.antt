@@ -1,7 +1,7 @@
 -- The effect of a call that types a scan byte or a key, on what C holds.
 use Rattle.std.specs.Prelude.{◌≡◌, ℕ, Bool, true, false, Option, Some, None}
 use Rattle.key_machine.specs.declared.key_out.KeyOut.{KeyOut}
-use Rattle.keys_c.specs.Codes.{NOTHING, OK, RANGE}
+use Rattle.c_calls.specs.Codes.{NOTHING, OK, RANGE}
 use Rattle.keys_c.specs.KeyOuts.{vt_key_of}
 use Rattle.keys_c.specs.KeyState.{state_out}
 use Rattle.keys_c.specs.KeyboardView.{KeyboardView}

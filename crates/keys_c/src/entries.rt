@@ -1,19 +1,19 @@
 //! Reads and sets the actions of keys, and the keycodes of scan numbers.
 ghost use Rattle.std.specs.Prelude.{◌≡◌, ◌&&◌, nat_le, slice_index};
+ghost use Rattle.c_calls.specs.Codes.{NOTHING, OK, RANGE};
 ghost use Rattle.key_syms.specs.Act.{is_action};
 ghost use Rattle.key_tables.specs.Tables.{entry_of, exists_in};
 ghost use Rattle.keys_c.specs.Actions.{c_action};
 ghost use Rattle.keys_c.specs.Answers.{Changes, ChangesIf, Reads};
-ghost use Rattle.keys_c.specs.Codes.{NOTHING, OK, RANGE};
 ghost use Rattle.keys_c.specs.KeyboardView.{with_action, with_keycode};
 ghost use Rattle.keys_c.specs.Loans.{IsSameLoan};
 ghost use Rattle.keys_c.specs.Scanning.{is_keycode};
 ghost use Rattle.scan_codes.specs.Groups.{is_scan};
 
-use crate::code;
 use crate::handle::KeysHandle;
 use crate::loan::KeysLoan;
 use crate::vt_action::VtAction;
+use c_calls::{change, code, read};
 use std::alloc::Global;
 
 /// Writes the action of a key in a table (ioctl_console(2), KDGKBENT).
@@ -28,20 +28,14 @@ pub extern "C" fn vt_lent_keys_entry(
     ensures entry { Reads loan.old.value (nat_le table 255 && is_keycode keycode)
         (λ k. c_action (entry_of k.tables table keycode)) result action.old action.new }
 {
-    let lent = loan.take();
-    let answer = match lent.get() {
-        None => code::NOTHING,
-        Some(keyboard) => {
-            if table <= 255 && is_keycode(keycode) {
-                *action = VtAction::of(keyboard.entry(table as u8, keycode as u8));
-                code::OK
-            } else {
-                code::RANGE
-            }
+    read!(loan, keyboard => {
+        if table <= 255 && is_keycode(keycode) {
+            *action = VtAction::of(keyboard.entry(table as u8, keycode as u8));
+            code::OK
+        } else {
+            code::RANGE
         }
-    };
-    loan.put(lent);
-    answer
+    })
 }
 
 /// Sets the action of a key in a table that exists (ioctl_console(2), KDSKBENT).
@@ -58,17 +52,16 @@ pub extern "C" fn vt_keys_set_entry(
         && (exists_in k.tables table && is_action action.now.kind action.now.value)))
         (λ k. with_action k table keycode action.now.kind action.now.value) result h.new.value }
 {
-    let Some(mut keyboard) = h.take(alloc) else {
-        return code::NOTHING;
-    };
-    let mut answer = code::RANGE;
-    if table <= 255 && is_keycode(keycode) {
-        if keyboard.set_entry(table as u8, keycode as u8, action.kind, action.value) {
-            answer = code::OK;
+    change!(h, alloc, keyboard => {
+        if table <= 255
+            && is_keycode(keycode)
+            && keyboard.set_entry(table as u8, keycode as u8, action.kind, action.value)
+        {
+            code::OK
+        } else {
+            code::RANGE
         }
-    }
-    h.put(keyboard);
-    answer
+    })
 }
 
 /// Writes the keycode of a scan number, or 0 (ioctl_console(2), KDGETKEYCODE).
@@ -78,25 +71,19 @@ pub extern "C" fn vt_lent_keys_keycode(loan: &mut KeysLoan, scan: u32, keycode: 
     ensures keycode { Reads loan.old.value (nat_le scan 255 && is_scan scan)
         (λ k. slice_index k.scanner.codes scan) result keycode.old keycode.new }
 {
-    let lent = loan.take();
-    let answer = match lent.get() {
-        None => code::NOTHING,
-        Some(keyboard) => {
-            if scan <= 255 {
-                match keyboard.keycode(scan as u8) {
-                    None => code::RANGE,
-                    Some(found) => {
-                        *keycode = u32::from(found);
-                        code::OK
-                    }
+    read!(loan, keyboard => {
+        if scan <= 255 {
+            match keyboard.keycode(scan as u8) {
+                None => code::RANGE,
+                Some(found) => {
+                    *keycode = u32::from(found);
+                    code::OK
                 }
-            } else {
-                code::RANGE
             }
+        } else {
+            code::RANGE
         }
-    };
-    loan.put(lent);
-    answer
+    })
 }
 
 /// Sets the keycode of a scan number, or 0 for none (ioctl_console(2), KDSETKEYCODE).
@@ -110,17 +97,13 @@ pub extern "C" fn vt_keys_set_keycode(
     ensures { Changes h.old.value (nat_le scan 255 && (nat_le keycode 255 && is_scan scan))
         (λ k. with_keycode k scan keycode) result h.new.value }
 {
-    let Some(mut keyboard) = h.take(alloc) else {
-        return code::NOTHING;
-    };
-    let mut answer = code::RANGE;
-    if scan <= 255 && keycode <= 255 {
-        if keyboard.set_keycode(scan as u8, keycode as u8) {
-            answer = code::OK;
+    change!(h, alloc, keyboard => {
+        if scan <= 255 && keycode <= 255 && keyboard.set_keycode(scan as u8, keycode as u8) {
+            code::OK
+        } else {
+            code::RANGE
         }
-    }
-    h.put(keyboard);
-    answer
+    })
 }
 
 /// Whether key tables have an entry for the keycode.

@@ -1,15 +1,14 @@
 //! Makes a keyboard from a keymap text, and frees it.
 ghost use Rattle.std.specs.Prelude.{◌≡◌, ◌≢◌, ◌↔◌, ◌⊎◌, Err, None, Some, IsSome, IsSomeAnd};
-ghost use Rattle.keys_c.specs.Codes.{FAULT, MADE, NO_MEMORY, OK};
+ghost use Rattle.c_calls.specs.Codes.{FAULT, MADE, NO_MEMORY, OK};
 ghost use Rattle.keys_c.specs.KeyboardView.{start_keyboard};
 ghost use Rattle.keys_c.specs.Keymaps.{IsStartOf, fault_of, keymap_of};
 
-use crate::code;
 use crate::handle::KeysHandle;
 use crate::keymap::tables_in;
 use crate::keymap_keyboard::KeymapKeyboard;
-use crate::vt_fault::VtFault;
 use crate::vt_text::VtText;
+use c_calls::{VtFault, code};
 use key_tables::KeyTables;
 use key_text::KeyError;
 use std::alloc::Global;
@@ -52,7 +51,7 @@ fn make(h: &mut KeysHandle, alloc: Global, text: &[u8], texts: &[VtText], fault:
     match tables_in(alloc, text, texts) {
         Ok(tables) => start(h, alloc, tables),
         Err(KeyError::Fault(first)) => {
-            *fault = VtFault::of(first);
+            *fault = VtFault::at(first.line, first.column, u32::from(first.kind));
             code::FAULT
         }
         Err(KeyError::NoMemory) => code::NO_MEMORY,

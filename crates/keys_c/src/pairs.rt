@@ -1,17 +1,16 @@
 //! Reads and sets the pairs of compose keys.
 ghost use Rattle.std.specs.Prelude.{◌≡◌, ◌⊎◌, [], IfNone, IfOk, IfSome, is_some, unwrap_or};
+ghost use Rattle.c_calls.specs.Codes.{NOTHING, NO_MEMORY, OK, RANGE};
+ghost use Rattle.c_calls.specs.Text.{Hands, room_of};
 ghost use Rattle.call_bytes.specs.Pairs.{pairs_in, pairs_text};
 ghost use Rattle.keys_c.specs.Answers.{Changes};
-ghost use Rattle.keys_c.specs.Codes.{NOTHING, NO_MEMORY, OK, RANGE};
 ghost use Rattle.keys_c.specs.KeyboardView.{with_accents};
 ghost use Rattle.keys_c.specs.Loans.{IsSameLoan};
-ghost use Rattle.keys_c.specs.Strings.{Hands, room_of};
 
-use crate::code;
 use crate::handle::KeysHandle;
 use crate::keymap_keyboard::KeymapKeyboard;
 use crate::loan::KeysLoan;
-use crate::strings::hand_over;
+use c_calls::{change, code, hand_over, read};
 use call_bytes::{add_pairs, read_pairs};
 use std::alloc::Global;
 use vt_base::{Bytes, NoMemory};
@@ -34,16 +33,10 @@ pub extern "C" fn vt_lent_keys_pairs(
         Hands (pairs_text k.tables.pairs) result (room_of room.old length.old) (room_of room.new length.new)
         ⊎ ((result ≡ NO_MEMORY) × (room_of room.new length.new ≡ room_of room.old length.old))) }
 {
-    let lent = loan.take();
-    let answer = match lent.get() {
-        None => code::NOTHING,
-        Some(keyboard) => match keyboard.pair_bytes(alloc) {
-            Err(_) => code::NO_MEMORY,
-            Ok(bytes) => hand_over(bytes.as_slice(), room, length),
-        },
-    };
-    loan.put(lent);
-    answer
+    read!(loan, keyboard => match keyboard.pair_bytes(alloc) {
+        Err(_) => code::NO_MEMORY,
+        Ok(bytes) => hand_over(bytes.as_slice(), room, length),
+    })
 }
 
 /// Sets the pairs, as their bytes (ioctl_console(2), KDSKBDIACRUC).
@@ -52,18 +45,13 @@ pub extern "C" fn vt_nonnull_keys_set_pairs(h: &mut KeysHandle, alloc: Global, b
     ensures { Changes h.old.value (is_some (pairs_in bytes.now))
         (λ k. with_accents k (unwrap_or (pairs_in bytes.now) [])) result h.new.value }
 {
-    let Some(mut keyboard) = h.take(alloc) else {
-        return code::NOTHING;
-    };
-    let answer = match read_pairs(bytes) {
+    change!(h, alloc, keyboard => match read_pairs(bytes) {
         None => code::RANGE,
         Some(pairs) => {
             keyboard.set_pairs(pairs.as_slice());
             code::OK
         }
-    };
-    h.put(keyboard);
-    answer
+    })
 }
 
 impl KeymapKeyboard {

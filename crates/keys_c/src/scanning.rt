@@ -1,19 +1,19 @@
 //! Types scan bytes and keys into a console, and releases all keys.
 ghost use Rattle.std.specs.Prelude.{◌≡◌, ◌&&◌, None, Some, IfNone, IfSome, IsTrue, false, true};
+ghost use Rattle.c_calls.specs.Codes.{NOTHING, OK};
 ghost use Rattle.keys_c.specs.Answers.{Changes};
-ghost use Rattle.keys_c.specs.Codes.{NOTHING, OK};
 ghost use Rattle.keys_c.specs.KeyState.{is_key_state, state_in};
 ghost use Rattle.keys_c.specs.KeyboardView.{with_keys_up};
 ghost use Rattle.keys_c.specs.Modes.{is_modes, is_set, modes_of};
 ghost use Rattle.keys_c.specs.Scanning.{byte_step, event_step, is_keycode, key_event, out_in_mode};
 ghost use Rattle.keys_c.specs.Typing.{Types, typed};
 
-use crate::code;
 use crate::entries::is_keycode;
 use crate::handle::KeysHandle;
+use crate::modes::{is_modes, modes_of};
 use crate::vt_key::VtKey;
 use crate::vt_key_state::VtKeyState;
-use crate::vt_modes::VtModes;
+use c_calls::{VtModes, change, code};
 use key_machine::KbState;
 use scan_codes::KeyEvent;
 use std::alloc::Global;
@@ -33,22 +33,17 @@ pub extern "C" fn vt_keys_scan(
         (out_in_mode state.old.mode byte) result
         (typed h.old.value state.old out.old) (typed h.new.value state.new out.new) }
 {
-    let Some(mut keyboard) = h.take(alloc) else {
-        return code::NOTHING;
-    };
-    let answer = match known(modes, state) {
+    change!(h, alloc, keyboard => match known(modes, state) {
         None => code::RANGE,
         Some(keys) => {
             let mut keys = keys;
             let mode = keys.mode;
-            let said = keyboard.scan(byte, modes.modes(), &mut keys);
+            let said = keyboard.scan(byte, modes_of(modes), &mut keys);
             out.hand_over(mode, byte, &said, &keyboard);
             state.set(keys);
             code::OK
         }
-    };
-    h.put(keyboard);
-    answer
+    })
 }
 
 /// Types a key by its keycode into the console with this state and these modes, and writes the result to `out`.
@@ -67,25 +62,20 @@ pub extern "C" fn vt_keys_key(
         (λ said. said) result
         (typed h.old.value state.old out.old) (typed h.new.value state.new out.new) }
 {
-    let Some(mut keyboard) = h.take(alloc) else {
-        return code::NOTHING;
-    };
-    let answer = match known(modes, state) {
+    change!(h, alloc, keyboard => match known(modes, state) {
         Some(keys) if is_keycode(keycode) => {
             let mut keys = keys;
             let event = KeyEvent {
                 code: keycode as u8,
                 down: is_down != 0,
             };
-            let said = keyboard.type_key(event, modes.modes(), &mut keys);
+            let said = keyboard.type_key(event, modes_of(modes), &mut keys);
             out.put_out(&said, &keyboard);
             state.set(keys);
             code::OK
         }
         _ => code::RANGE,
-    };
-    h.put(keyboard);
-    answer
+    })
 }
 
 // The key state, if its numbers are in their ranges and all spare bytes are 0.
@@ -94,11 +84,7 @@ fn known(modes: &VtModes, state: &VtKeyState) -> Option<KbState>
         IsTrue (is_modes modes.now && is_key_state state.now) × (s ≡ state_in state.now)) }
     ensures none { IfNone result ((is_modes modes.now && is_key_state state.now) ≡ false) }
 {
-    if modes.is_known() {
-        state.state()
-    } else {
-        None
-    }
+    if is_modes(modes) { state.state() } else { None }
 }
 
 /// Releases the keys as if the keyboard were unplugged. Nothing is sent.
@@ -106,10 +92,8 @@ fn known(modes: &VtModes, state: &VtKeyState) -> Option<KbState>
 pub extern "C" fn vt_keys_release(h: &mut KeysHandle, alloc: Global) -> u8
     ensures { Changes h.old.value true with_keys_up result h.new.value }
 {
-    let Some(mut keyboard) = h.take(alloc) else {
-        return code::NOTHING;
-    };
-    keyboard.release();
-    h.put(keyboard);
-    code::OK
+    change!(h, alloc, keyboard => {
+        keyboard.release();
+        code::OK
+    })
 }

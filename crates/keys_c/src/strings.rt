@@ -1,14 +1,15 @@
 //! Reads and sets the strings of function keys.
 ghost use Rattle.std.specs.Prelude.{◌≡◌, ◌≤◌, ◌&&◌, None, Some, true, length, nat_le, MatchOption};
+ghost use Rattle.c_calls.specs.Codes.{NOTHING, NO_ROOM, OK, RANGE};
+ghost use Rattle.c_calls.specs.Text.{room_of};
 ghost use Rattle.keys_c.specs.Answers.{Changes};
-ghost use Rattle.keys_c.specs.Codes.{NOTHING, NO_ROOM, OK, RANGE};
 ghost use Rattle.keys_c.specs.KeyboardView.{with_string};
 ghost use Rattle.keys_c.specs.Loans.{IsSameLoan};
-ghost use Rattle.keys_c.specs.Strings.{Hands, HandsString, room_of};
+ghost use Rattle.keys_c.specs.Strings.{HandsString};
 
-use crate::code;
 use crate::handle::KeysHandle;
 use crate::loan::KeysLoan;
+use c_calls::{change, code, hand_over, read};
 use std::alloc::Global;
 
 /// The greatest number of a function key.
@@ -29,19 +30,13 @@ pub extern "C" fn vt_lent_keys_string(
     ensures string { HandsString loan.old.value number result
         (room_of text.old length.old) (room_of text.new length.new) }
 {
-    let lent = loan.take();
-    let answer = match lent.get() {
-        None => code::NOTHING,
-        Some(keyboard) => {
-            if number <= LAST_KEY {
-                hand_over(keyboard.string(number as u8), text, length)
-            } else {
-                code::RANGE
-            }
+    read!(loan, keyboard => {
+        if number <= LAST_KEY {
+            hand_over(keyboard.string(number as u8), text, length)
+        } else {
+            code::RANGE
         }
-    };
-    loan.put(lent);
-    answer
+    })
 }
 
 /// Sets the string of a function key (ioctl_console(2), KDSKBSENT).
@@ -55,26 +50,12 @@ pub extern "C" fn vt_nonnull_keys_set_string(
     ensures { Changes h.old.value (nat_le number 255 && nat_le (length text.now) 255)
         (λ k. with_string k number text.now) result h.new.value }
 {
-    let Some(mut keyboard) = h.take(alloc) else {
-        return code::NOTHING;
-    };
-    if number > LAST_KEY || text.len() > MOST_BYTES {
-        h.put(keyboard);
-        return code::RANGE;
-    }
-    keyboard.set_string(number as u8, text);
-    h.put(keyboard);
-    code::OK
-}
-
-/// Writes the length of a string, and the string itself if there is room for it.
-pub(crate) fn hand_over(string: &[u8], text: &mut [u8], length: &mut usize) -> u8
-    ensures { Hands string.now result (room_of text.old length.old) (room_of text.new length.new) }
-{
-    *length = string.len();
-    if string.len() > text.len() {
-        return code::NO_ROOM;
-    }
-    text[..string.len()].copy_from_slice(string);
-    code::OK
+    change!(h, alloc, keyboard => {
+        if number <= LAST_KEY && text.len() <= MOST_BYTES {
+            keyboard.set_string(number as u8, text);
+            code::OK
+        } else {
+            code::RANGE
+        }
+    })
 }

@@ -1,5 +1,3 @@
 mod Edited
 mod Entered
-mod Fillings
 mod HandleParts
-mod Prefixes

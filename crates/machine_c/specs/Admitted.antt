@@ -4,7 +4,7 @@ use Rattle.machine.specs.Admissions.{given}
 use Rattle.machine.specs.MachineState.{MachineState}
 use Rattle.machine.specs.declared.admit_error.AdmitError.{AdmitError}
 use Rattle.machine.specs.declared.admit_error.AdmitError.TheVariants.{Unlisted, Ended, InUse, OtherRights}
-use Rattle.machine_c.specs.Codes.{MADE, OK, RANGE}
+use Rattle.c_calls.specs.Codes.{MADE, OK, RANGE}
 use Rattle.vt_procs.specs.declared.proc_start.ProcStart.{ProcStart}
 
 -- OK, RANGE if it isn't a process of the start, and MADE if it can't be given to this program

@@ -1,8 +1,8 @@
 -- A call by its words, and what it leaves.
 use Rattle.std.specs.Prelude.{◌≡◌, ◌<◌, ◌≤◌, ◌⊎◌, ◌&&◌, ◌||◌, ◌==◌, ℕ, Bool, true, List, length, Option, Some, is_some}
 use Rattle.machine.specs.MachineState.{HasCalled, MachineState, greatest_number, made_by}
-use Rattle.machine_c.specs.Codes.{FULL, NO_MEMORY, NO_ROOM, OK}
-use Rattle.machine_c.specs.Places.{with_items}
+use Rattle.c_calls.specs.Codes.{FULL, NO_MEMORY, NO_ROOM, OK}
+use Rattle.c_calls.specs.Places.{with_items}
 use Rattle.machine_c.specs.Shown.{c_reply}
 use Rattle.machine_c.specs.declared.vt_reply.VtReply.{VtReply}
 use Rattle.vt_events.specs.Calls.{held_of, numbers_of}

@@ -1,13 +1,10 @@
 -- The cells that a terminal shows, as C passes them.
-use Rattle.std.specs.Prelude.{◌≡◌, ℕ, ◌*◌, List, length, map, take, drop, replicate}
+use Rattle.std.specs.Prelude.{◌≡◌, ℕ, ◌*◌, List, length, map, take, drop}
 use Rattle.std.specs.List.{All, range_with_len}
-use Rattle.machine_c.specs.declared.vt_cell.VtCell.{VtCell}
+use Rattle.c_cells.specs.Cells.{IsPlain, cell_of}
+use Rattle.c_cells.specs.declared.vt_cell.VtCell.{VtCell}
 use Rattle.vt_cells.specs.declared.cell.Cell.{Cell}
 use Rattle.vt_grid.specs.Grid.{GridView, grid_view_of}
-
--- the cell that C passes so
-abbrev pub cell_of : VtCell → Cell
-cell_of c = record { code = c.code; attr = c.attr }
 
 -- row y of cells that stand row by row, each of so many columns
 abbrev pub row_of : ℕ → List VtCell → ℕ → List Cell
@@ -16,10 +13,6 @@ row_of cols cells y = map cell_of (take cols (drop (y * cols) cells))
 -- the rows of these cells, from the top
 abbrev pub grid_of : ℕ → ℕ → List VtCell → GridView
 grid_of rows cols cells = grid_view_of rows cols (map (row_of cols cells) (range_with_len 0 rows))
-
--- no spare byte is set
-abbrev pub IsPlain : VtCell → Type 0
-IsPlain c = c.spare ≡ replicate 3 0
 
 -- the cells of a terminal that has these columns and the grid's size
 pub record AreCellsOf (grid : GridView) (cells : List VtCell) (cols : ℕ) : Type 0 where

@@ -9,7 +9,7 @@ use Rattle.key_text.specs.Reading.{lines_of}
 use Rattle.key_text.specs.declared.fault.KeyError.{KeyError}
 use Rattle.key_text.specs.declared.fault.KeyError.TheVariants as errors
 use Rattle.key_text.specs.declared.fault.KeyFault.{KeyFault}
-use Rattle.machine_c.specs.declared.vt_fault.VtFault.{VtFault}
+use Rattle.c_calls.specs.declared.vt_fault.VtFault.{VtFault}
 
 -- the lines, or the fault that they have together
 abbrev pub lines_unless : List KeymapLine → Option KeyFault → Result (List KeymapLine) KeyFault

@@ -1,11 +1,8 @@
 pub mod Admitted
 pub mod Calls
 pub mod Cells
-pub mod Codes
 pub mod Keymaps
 pub mod Loans
-pub mod Places
 pub mod Redrawn
 pub mod Shown
 pub mod Started
-pub mod Text

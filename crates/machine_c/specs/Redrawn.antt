@@ -1,9 +1,9 @@
 -- The results of a call that draws a screen again.
 use Rattle.std.specs.Prelude.{◌≡◌, ◌⊎◌, ◌≤◌, ℕ, false, IsTrue, List, take}
 use Rattle.machine_c.specs.Cells.{AreCellsOf, grid_of}
-use Rattle.machine_c.specs.Codes.{NO_ROOM, NOT_DRAWABLE, OK, RANGE}
-use Rattle.machine_c.specs.Text.{HandsOver}
-use Rattle.machine_c.specs.declared.vt_cell.VtCell.{VtCell}
+use Rattle.c_calls.specs.Codes.{NO_ROOM, NOT_DRAWABLE, OK, RANGE}
+use Rattle.c_calls.specs.Text.{HandsOver}
+use Rattle.c_cells.specs.declared.vt_cell.VtCell.{VtCell}
 use Rattle.vt_canvas.specs.Screen.{IsWhole, Screen}
 use Rattle.vt_grid.specs.Grid.{GridView}
 use Rattle.vt_redraw.specs.Drawable.{is_redrawable}

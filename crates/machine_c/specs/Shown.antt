@@ -1,13 +1,12 @@
--- A cell, an answer, a mark, a wait, the display and a console as C gets them. Spare places are 0.
-use Rattle.std.specs.Prelude.{ℕ, ◌+◌, Bool, true, false, [], ◌∷◌, length, replicate, Option, None, unwrap_or, if◌then◌else◌}
+-- An answer, a mark, a wait, the display and a console as C gets them. Spare places are 0.
+use Rattle.std.specs.Prelude.{ℕ, ◌+◌, [], ◌∷◌, length, replicate, Option, None, unwrap_or, if◌then◌else◌}
+use Rattle.c_calls.specs.Flags.{c_flag}
 use Rattle.machine.specs.MachineState.{MachineState}
-use Rattle.machine_c.specs.declared.vt_cell.VtCell.{VtCell}
 use Rattle.machine_c.specs.declared.vt_console.VtConsole.{VtConsole}
 use Rattle.machine_c.specs.declared.vt_display.VtDisplay.{VtDisplay}
 use Rattle.machine_c.specs.declared.vt_mark.VtMark.{VtMark}
 use Rattle.machine_c.specs.declared.vt_reply.VtReply.{VtReply}
 use Rattle.vt_base.specs.Errno.{number_of}
-use Rattle.vt_cells.specs.declared.cell.Cell.{Cell}
 use Rattle.vt_events.specs.declared.reply.Reply.{Reply}
 use Rattle.vt_events.specs.declared.reply.Reply.TheVariants as reply
 use Rattle.vt_procs.specs.declared.waiting.Waiting.{Waiting}
@@ -21,14 +20,6 @@ use Rattle.vt_world.specs.Inputs.{input_at}
 use Rattle.vt_world.specs.Spare.{is_console}
 use Rattle.vt_world.specs.State.{WorldState}
 use Rattle.vt_world.specs.Terminals.{TerminalState, terminal_at}
-
-abbrev pub c_cell : Cell → VtCell
-c_cell cell = record { code = cell.code; attr = cell.attr; spare = replicate 3 0 }
-
--- 1 is yes and 0 is no
-abbrev pub c_flag : Bool → ℕ
-c_flag true = 1
-c_flag false = 0
 
 -- an answer with neither bytes nor words
 abbrev pub plain_answer : ℕ → ℕ → ℕ → VtReply

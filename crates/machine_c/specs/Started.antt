@@ -3,9 +3,9 @@ use Rattle.std.specs.Prelude.{◌≡◌, ◌≤◌, ◌⊎◌, ◌==◌, ℕ, Op
 use Rattle.std.specs.List.{All}
 use Rattle.machine.specs.History.{world_of}
 use Rattle.machine.specs.MachineState.{MachineState}
-use Rattle.machine_c.specs.Codes.{FAULT, NO_MEMORY, OK}
+use Rattle.c_calls.specs.Codes.{FAULT, NO_MEMORY, OK}
 use Rattle.machine_c.specs.Keymaps.{AreTablesIn, fault_of, keymap_of}
-use Rattle.machine_c.specs.declared.vt_fault.VtFault.{VtFault}
+use Rattle.c_calls.specs.declared.vt_fault.VtFault.{VtFault}
 use Rattle.machine_c.specs.declared.vt_seat.VtSeat.{VtSeat}
 use Rattle.machine_c.specs.declared.vt_start.VtStart.{VtStart}
 use Rattle.vt_base.specs.ConsoleSet.{IsFitSet}

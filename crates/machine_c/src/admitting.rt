@@ -1,14 +1,14 @@
 //! Gives a process to a program.
 ghost use Rattle.std.specs.Prelude.{◌≡◌, IfNone, IfSome, None, Some};
+ghost use Rattle.c_calls.specs.Codes.{NOTHING, RANGE};
 ghost use Rattle.machine.specs.Admissions.{admission};
 ghost use Rattle.machine_c.specs.Admitted.{after_admission, code_of};
-ghost use Rattle.machine_c.specs.Codes.{NOTHING, RANGE};
 ghost use Rattle.machine_c.specs.Started.{IsSeat, rights_of};
 
-use crate::code;
 use crate::handle::MachineHandle;
 use crate::numbers::caller_of;
 use crate::vt_seat::VtSeat;
+use c_calls::code;
 use machine::{AdmitError, Machine};
 use std::alloc::Global;
 use vt_procs::ProcStart;

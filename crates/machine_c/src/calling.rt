@@ -1,18 +1,18 @@
 //! Makes a call of a caller.
 ghost use Rattle.std.specs.Prelude.{◌≡◌, ◌≤◌, IfNone, IfSome, None, Some, length, true};
+ghost use Rattle.c_calls.specs.Codes.{NOTHING, OK, RANGE};
+ghost use Rattle.c_calls.specs.Places.{with_items};
 ghost use Rattle.machine.specs.MachineState.{forgotten};
 ghost use Rattle.machine_c.specs.Calls.{Answers, IsCall, places};
-ghost use Rattle.machine_c.specs.Codes.{NOTHING, OK, RANGE};
-ghost use Rattle.machine_c.specs.Places.{with_items};
 ghost use Rattle.vt_events.specs.Calls.{numbers_of};
 ghost use Rattle.vt_events.specs.Charge.{text_of_reply};
 ghost use Rattle.vt_events.specs.Kinds.{blank, call_of, takes};
 ghost use Rattle.vt_events.specs.declared.kind.Kind.{Kind};
 
-use crate::code;
 use crate::handle::MachineHandle;
 use crate::vt_reply::VtReply;
 use crate::words::{FoundCall, find_call};
+use c_calls::{change, code};
 use machine::{CallError, Machine};
 use std::alloc::Global;
 use vt_base::{Bytes, CallerNo};
@@ -39,24 +39,16 @@ pub extern "C" fn vt_nonnull_machine_call(
         → Answers caller (call_of kind numbers.now held.now) m
         (places h.old.value reply.old bytes.old) (places h.new.value reply.new bytes.new) result) }
 {
-    match h.take(alloc) {
-        None => code::NOTHING,
-        Some(machine) => {
-            let mut machine = machine;
-            let answer = call_words(
-                &mut machine,
-                alloc,
-                caller,
-                name,
-                numbers,
-                held,
-                reply,
-                bytes,
-            );
-            h.put(machine);
-            answer
-        }
-    }
+    change!(h, alloc, machine => call_words(
+        &mut machine,
+        alloc,
+        caller,
+        name,
+        numbers,
+        held,
+        reply,
+        bytes,
+    ))
 }
 
 // Makes the call of these words, if they are those of a call.
@@ -154,13 +146,8 @@ pub extern "C" fn vt_machine_forget(h: &mut MachineHandle, alloc: Global) -> u8
     ensures nothing { IfNone h.old.value ((result ≡ NOTHING) × (h.new.value ≡ None)) }
     ensures forgotten { IfSome h.old.value (λ m. (result ≡ OK) × (h.new.value ≡ Some (forgotten m))) }
 {
-    match h.take(alloc) {
-        None => code::NOTHING,
-        Some(machine) => {
-            let mut machine = machine;
-            machine.forget();
-            h.put(machine);
-            code::OK
-        }
-    }
+    change!(h, alloc, machine => {
+        machine.forget();
+        code::OK
+    })
 }

@@ -1,7 +1,7 @@
 //! A console as a text for a terminal that shows other cells.
 ghost use Rattle.std.specs.Prelude.{◌≡◌, ◌≤◌, length, IfNone, IfOk, IfSome, IsTrue, MatchOption};
+ghost use Rattle.c_calls.specs.Codes.{NOTHING, RANGE};
 ghost use Rattle.machine_c.specs.Cells.{AreCellsOf, grid_of};
-ghost use Rattle.machine_c.specs.Codes.{NOTHING, RANGE};
 ghost use Rattle.machine_c.specs.Loans.{IsSameLoan};
 ghost use Rattle.machine_c.specs.Redrawn.{DrawsFrom, DrawsNearFrom, DrawsOver, Refuses};
 ghost use Rattle.machine_c.specs.Shown.{console_at};
@@ -11,12 +11,11 @@ ghost use Rattle.vt_redraw.specs.Near.{near};
 ghost use Rattle.vt_redraw.specs.Redraw.{changes_of};
 ghost use Rattle.vt_world.specs.Terminals.{emu_of};
 
-use crate::code;
-use crate::handing_over::hand_over;
 use crate::loan::MachineLoan;
 use crate::rows::screen_of;
 use crate::shown_cells::{are_cells_of, grid_of};
-use crate::vt_cell::VtCell;
+use c_calls::{code, hand_over, read};
+use c_cells::VtCell;
 use machine::Machine;
 use std::alloc::Global;
 use vt_base::{Bytes, NoMemory};
@@ -41,13 +40,7 @@ pub extern "C" fn vt_lent_machine_redraw_changes(
         (Refuses text.old text.new count.old count.new RANGE result)
         (λ emu. DrawsFrom emu.state shown.now cols text.old text.new count.old count.new result)) }
 {
-    let lent = loan.take();
-    let answer = match lent.get() {
-        None => code::NOTHING,
-        Some(machine) => change_console(machine, alloc, n, shown, cols, text, count),
-    };
-    loan.put(lent);
-    answer
+    read!(loan, machine => change_console(machine, alloc, n, shown, cols, text, count))
 }
 
 /// The text that draws the nearest drawable screen on a terminal of its size that shows these cells.
@@ -67,13 +60,7 @@ pub extern "C" fn vt_lent_machine_redraw_changes_near(
         (Refuses text.old text.new count.old count.new RANGE result)
         (λ emu. DrawsNearFrom emu.state shown.now cols text.old text.new count.old count.new result)) }
 {
-    let lent = loan.take();
-    let answer = match lent.get() {
-        None => code::NOTHING,
-        Some(machine) => change_console_near(machine, alloc, n, shown, cols, text, count),
-    };
-    loan.put(lent);
-    answer
+    read!(loan, machine => change_console_near(machine, alloc, n, shown, cols, text, count))
 }
 
 fn change_console(

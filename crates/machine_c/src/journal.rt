@@ -1,17 +1,16 @@
 //! The text of the journal, as a whole and by its lines.
 ghost use Rattle.std.specs.Prelude.{◌≡◌, ◌≤◌, IfNone, IfSome, Some, length, slice_get};
+ghost use Rattle.c_calls.specs.Codes.{NOTHING, RANGE};
+ghost use Rattle.c_calls.specs.Text.{HandsOver};
 ghost use Rattle.machine.specs.History.{world_of};
 ghost use Rattle.machine.specs.MachineState.{IsContinued, text_of};
-ghost use Rattle.machine_c.specs.Codes.{NOTHING, RANGE};
 ghost use Rattle.machine_c.specs.Loans.{IsSameLoan};
-ghost use Rattle.machine_c.specs.Text.{HandsOver};
 ghost use Rattle.vt_events.specs.declared.entry.Entry.{Entry};
 ghost use Rattle.vt_journal.specs.Journal.{entry_words, line_text};
 ghost use Rattle.vt_world.specs.History.{IsLegal};
 
-use crate::code;
-use crate::handing_over::hand_over;
 use crate::loan::MachineLoan;
+use c_calls::{code, hand_over, read};
 use machine::Machine;
 use std::alloc::Global;
 use vt_base::Bytes;
@@ -60,13 +59,7 @@ pub extern "C" fn vt_lent_machine_entry(
     ensures text { IfSome loan.old.value (λ m. (entry : Entry) → slice_get m.log.entries index ≡ Some entry
         → HandsOver (line_text (entry_words 2 entry)) text.old text.new count.old count.new result) }
 {
-    let lent = loan.take();
-    let answer = match lent.get() {
-        None => code::NOTHING,
-        Some(machine) => entry_at(machine, alloc, index, text, count),
-    };
-    loan.put(lent);
-    answer
+    read!(loan, machine => entry_at(machine, alloc, index, text, count))
 }
 
 fn journal(machine: &Machine, alloc: Global, text: &mut [u8], count: &mut usize) -> u8

@@ -1,18 +1,17 @@
 //! Makes a machine, and frees it.
 ghost use Rattle.std.specs.Prelude.{◌≡◌, ◌≤◌, [], IfNone, IfOk, IfSome, None, Some, replicate};
+ghost use Rattle.c_calls.specs.Codes.{MADE, RANGE};
 ghost use Rattle.machine.specs.History.{world_of};
-ghost use Rattle.machine_c.specs.Codes.{MADE, RANGE};
 ghost use Rattle.machine_c.specs.Started.{IsConfigOf, IsInRange, Makes};
 ghost use Rattle.vt_base.specs.ConsoleSet.{IsFitSet};
 ghost use Rattle.vt_procs.specs.Callers.{IsFitCount};
 
-use crate::code;
 use crate::handle::MachineHandle;
 use crate::keymap::tables_in;
 use crate::starting::config_of;
-use crate::vt_fault::VtFault;
 use crate::vt_seat::VtSeat;
 use crate::vt_start::VtStart;
+use c_calls::{VtFault, code};
 use key_tables::KeyTables;
 use key_text::KeyError;
 use machine::Machine;
@@ -92,7 +91,7 @@ fn make_as(
             Err(_) => code::NO_MEMORY,
         },
         Err(KeyError::Fault(first)) => {
-            *fault = VtFault::of(first);
+            *fault = VtFault::at(first.line, first.column, u32::from(first.kind));
             code::FAULT
         }
         Err(KeyError::NoMemory) => code::NO_MEMORY,

@@ -1,13 +1,13 @@
 //! Reads the marks of the last call.
 ghost use Rattle.std.specs.Prelude.{◌≡◌, IfNone, IfSome, length, map};
-ghost use Rattle.machine_c.specs.Codes.{NOTHING, OK};
+ghost use Rattle.c_calls.specs.Codes.{NOTHING, OK};
+ghost use Rattle.c_calls.specs.Places.{with_items};
 ghost use Rattle.machine_c.specs.Loans.{IsSameLoan};
-ghost use Rattle.machine_c.specs.Places.{with_items};
 ghost use Rattle.machine_c.specs.Shown.{c_mark};
 
-use crate::code;
 use crate::loan::MachineLoan;
 use crate::vt_mark::VtMark;
+use c_calls::{code, read};
 use vt_world::Mark;
 
 /// What the last call caused, in order: as many marks as there is room for, and how many there are.
@@ -23,18 +23,12 @@ pub extern "C" fn vt_lent_machine_marks(
         × (marks.new ≡ with_items (map c_mark m.world.trace.marks) marks.old)
         × (count.new ≡ length m.world.trace.marks)) }
 {
-    let lent = loan.take();
-    let answer = match lent.get() {
-        None => code::NOTHING,
-        Some(machine) => {
-            let all = machine.world().trace();
-            *count = all.len();
-            put_marks(all, marks);
-            code::OK
-        }
-    };
-    loan.put(lent);
-    answer
+    read!(loan, machine => {
+        let all = machine.world().trace();
+        *count = all.len();
+        put_marks(all, marks);
+        code::OK
+    })
 }
 
 // Writes the marks into the first places.

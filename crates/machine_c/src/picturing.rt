@@ -1,17 +1,16 @@
 //! A console as a picture.
 ghost use Rattle.std.specs.Prelude.{◌≡◌, IfNone, IfSome, MatchOption};
-ghost use Rattle.machine_c.specs.Codes.{NOTHING, RANGE};
+ghost use Rattle.c_calls.specs.Codes.{NOTHING, RANGE};
+ghost use Rattle.c_calls.specs.Text.{HandsOver};
 ghost use Rattle.machine_c.specs.Loans.{IsSameLoan};
 ghost use Rattle.machine_c.specs.Redrawn.{Refuses};
 ghost use Rattle.machine_c.specs.Shown.{console_at};
-ghost use Rattle.machine_c.specs.Text.{HandsOver};
 ghost use Rattle.vt_picture.specs.Picture.{picture_text};
 ghost use Rattle.vt_world.specs.Terminals.{emu_of};
 
-use crate::code;
-use crate::handing_over::hand_over;
 use crate::loan::MachineLoan;
 use crate::rows::screen_of;
+use c_calls::{code, hand_over, read};
 use machine::Machine;
 use std::alloc::Global;
 use vt_picture::picture;
@@ -32,13 +31,7 @@ pub extern "C" fn vt_lent_machine_picture(
         (Refuses text.old text.new count.old count.new RANGE result)
         (λ emu. HandsOver (picture_text emu.state) text.old text.new count.old count.new result)) }
 {
-    let lent = loan.take();
-    let answer = match lent.get() {
-        None => code::NOTHING,
-        Some(machine) => picture_console(machine, alloc, n, text, count),
-    };
-    loan.put(lent);
-    answer
+    read!(loan, machine => picture_console(machine, alloc, n, text, count))
 }
 
 fn picture_console(

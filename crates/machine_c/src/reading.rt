@@ -1,15 +1,15 @@
 //! Reads the display, a console, and the wait of a caller.
 ghost use Rattle.std.specs.Prelude.{◌≡◌, ◌<◌, ◌≤◌, ◌⊎◌, IfNone, IfSome, MatchOption, None, Some};
-ghost use Rattle.machine_c.specs.Codes.{NOTHING, OK, RANGE};
+ghost use Rattle.c_calls.specs.Codes.{NOTHING, OK, RANGE};
 ghost use Rattle.machine_c.specs.Loans.{IsSameLoan};
 ghost use Rattle.machine_c.specs.Shown.{c_console, c_display, c_wait, console_at};
 ghost use Rattle.vt_procs.specs.Callers.{caller_at};
 
-use crate::code;
 use crate::loan::MachineLoan;
 use crate::numbers::{caller_of, console_of};
 use crate::vt_console::VtConsole;
 use crate::vt_display::VtDisplay;
+use c_calls::{code, read};
 use machine::Machine;
 use vt_procs::Waiting;
 
@@ -20,16 +20,10 @@ pub extern "C" fn vt_lent_machine_display(loan: &mut MachineLoan, display: &mut 
     ensures nothing { IfNone loan.old.value ((result ≡ NOTHING) × (display.new ≡ display.old)) }
     ensures display { IfSome loan.old.value (λ m. (result ≡ OK) × (display.new ≡ c_display m)) }
 {
-    let lent = loan.take();
-    let answer = match lent.get() {
-        None => code::NOTHING,
-        Some(machine) => {
-            *display = VtDisplay::of(machine);
-            code::OK
-        }
-    };
-    loan.put(lent);
-    answer
+    read!(loan, machine => {
+        *display = VtDisplay::of(machine);
+        code::OK
+    })
 }
 
 /// A console, if it is allocated.
@@ -45,13 +39,7 @@ pub extern "C" fn vt_lent_machine_console(
         ((result ≡ RANGE) × (console.new ≡ console.old))
         (λ t. (result ≡ OK) × (console.new ≡ c_console m.world n t))) }
 {
-    let lent = loan.take();
-    let answer = match lent.get() {
-        None => code::NOTHING,
-        Some(machine) => read_console(machine, n, console),
-    };
-    loan.put(lent);
-    answer
+    read!(loan, machine => read_console(machine, n, console))
 }
 
 /// The state of a caller's wait: 0 none, 1 open, 2 it ended with success, 3 it was broken.
@@ -63,13 +51,7 @@ pub extern "C" fn vt_lent_machine_wait(loan: &mut MachineLoan, caller: u32, wait
         ((result ≡ OK) × (caller < 68) × (wait.new ≡ c_wait (caller_at m.world.callers caller).waiting))
         ⊎ ((result ≡ RANGE) × (68 ≤ caller) × (wait.new ≡ wait.old))) }
 {
-    let lent = loan.take();
-    let answer = match lent.get() {
-        None => code::NOTHING,
-        Some(machine) => read_wait(machine, caller, wait),
-    };
-    loan.put(lent);
-    answer
+    read!(loan, machine => read_wait(machine, caller, wait))
 }
 
 fn read_console(machine: &Machine, n: u32, console: &mut VtConsole) -> u8

@@ -1,15 +1,14 @@
 //! A console as a text that draws its screen again.
 ghost use Rattle.std.specs.Prelude.{◌≡◌, IfNone, IfSome, MatchOption};
-ghost use Rattle.machine_c.specs.Codes.{NOTHING, RANGE};
+ghost use Rattle.c_calls.specs.Codes.{NOTHING, RANGE};
 ghost use Rattle.machine_c.specs.Loans.{IsSameLoan};
 ghost use Rattle.machine_c.specs.Redrawn.{Draws, DrawsNear, Refuses};
 ghost use Rattle.machine_c.specs.Shown.{console_at};
 ghost use Rattle.vt_world.specs.Terminals.{emu_of};
 
-use crate::code;
-use crate::handing_over::hand_over;
 use crate::loan::MachineLoan;
 use crate::rows::screen_of;
+use c_calls::{code, hand_over, read};
 use machine::Machine;
 use std::alloc::Global;
 use vt_redraw::{redraw, redraw_near, redrawable};
@@ -30,13 +29,7 @@ pub extern "C" fn vt_lent_machine_redraw(
         (Refuses text.old text.new count.old count.new RANGE result)
         (λ emu. Draws emu.state text.old text.new count.old count.new result)) }
 {
-    let lent = loan.take();
-    let answer = match lent.get() {
-        None => code::NOTHING,
-        Some(machine) => redraw_console(machine, alloc, n, text, count),
-    };
-    loan.put(lent);
-    answer
+    read!(loan, machine => redraw_console(machine, alloc, n, text, count))
 }
 
 /// The text that draws the nearest drawable screen on any screen of its size.
@@ -54,13 +47,7 @@ pub extern "C" fn vt_lent_machine_redraw_near(
         (Refuses text.old text.new count.old count.new RANGE result)
         (λ emu. DrawsNear emu.state text.old text.new count.old count.new result)) }
 {
-    let lent = loan.take();
-    let answer = match lent.get() {
-        None => code::NOTHING,
-        Some(machine) => redraw_console_near(machine, alloc, n, text, count),
-    };
-    loan.put(lent);
-    answer
+    read!(loan, machine => redraw_console_near(machine, alloc, n, text, count))
 }
 
 fn redraw_console(

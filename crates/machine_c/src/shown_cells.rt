@@ -1,10 +1,11 @@
 //! The cells that a terminal shows, as C passes them.
 ghost use Rattle.std.specs.Prelude.{◌≡◌, ◌<◌, ◌*◌, false, length, map, IfOk, IsTrue};
 ghost use Rattle.std.specs.List.{All};
-ghost use Rattle.machine_c.specs.Cells.{AreCellsOf, IsPlain, cell_of, grid_of};
+ghost use Rattle.c_cells.specs.Cells.{IsPlain, cell_of};
+ghost use Rattle.machine_c.specs.Cells.{AreCellsOf, grid_of};
 ghost use Rattle.vt_grid.specs.Grid.{with_row};
 
-use crate::vt_cell::VtCell;
+use c_cells::VtCell;
 use std::alloc::Global;
 use vt_base::{NoMemory, Size};
 use vt_canvas::BLANK;

@@ -1,6 +1,4 @@
 mod Cases
-mod Fillings
 mod HandleParts
 mod Pieces
-mod Prefixes
 mod RowTests

@@ -1,9 +1,10 @@
 -- The effect of a feed.
 use Rattle.std.specs.List.{flat_map}
 use Rattle.std.specs.Prelude.{◌≡◌, ℕ, ◌+◌, ◌/◌, ◌<◌, ◌≤◌, ◌++◌, List, length, map, take, drop, replicate}
-use Rattle.screen_c.specs.Places.{with_items}
-use Rattle.screen_c.specs.Shown.{c_cell, c_out}
-use Rattle.screen_c.specs.declared.vt_cell.VtCell.{VtCell}
+use Rattle.c_calls.specs.Places.{with_items}
+use Rattle.c_cells.specs.Cells.{c_cell}
+use Rattle.c_cells.specs.declared.vt_cell.VtCell.{VtCell}
+use Rattle.screen_c.specs.Shown.{c_out}
 use Rattle.screen_c.specs.declared.vt_fed.VtFed.{VtFed}
 use Rattle.screen_c.specs.declared.vt_out.VtOut.{VtOut}
 use Rattle.vt_screen.specs.Falling.{rows_of_run}

@@ -1,9 +1,6 @@
-pub mod Codes
 pub mod Fed
 pub mod Held
 pub mod Loans
 pub mod Marks
-pub mod Places
 pub mod Shown
 pub mod Sizes
-pub mod Text

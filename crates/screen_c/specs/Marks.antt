@@ -1,7 +1,7 @@
 -- The rows that differ from the marked cells.
 use Rattle.std.specs.Prelude.{◌≡◌, ℕ, Bool, true, false, not, ◌&&◌, ◌==◌, List, map, Option, Some, None, if◌then◌else◌}
 use Rattle.std.specs.List.{range_with_len}
-use Rattle.screen_c.specs.Shown.{c_flag}
+use Rattle.c_calls.specs.Flags.{c_flag}
 use Rattle.vt_grid.specs.Grid.{GridView, row_at}
 use Rattle.vt_redraw.specs.Cells.{are_same}
 use Rattle.vt_redraw.specs.Redraw.{IsSameSize, changes_of, redraw_of}

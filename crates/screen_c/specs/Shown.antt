@@ -1,27 +1,18 @@
--- A cell, a colour, the state and an out as C gets them. Spare places are 0.
-use Rattle.std.specs.Prelude.{ℕ, ◌+◌, ◌*◌, ◌-◌, Bool, true, false, ◌++◌, length, replicate}
-use Rattle.screen_c.specs.declared.vt_cell.VtCell.{VtCell}
+-- A colour, the state and an out as C gets them. Spare places are 0.
+use Rattle.std.specs.Prelude.{ℕ, ◌+◌, ◌*◌, ◌-◌, ◌++◌, length, replicate}
+use Rattle.c_calls.specs.Flags.{c_flag}
 use Rattle.screen_c.specs.declared.vt_colour.VtColour.{VtColour}
-use Rattle.screen_c.specs.declared.vt_modes.VtModes.{VtModes}
+use Rattle.c_calls.specs.declared.vt_modes.VtModes.{VtModes}
 use Rattle.screen_c.specs.declared.vt_out.VtOut.{VtOut}
 use Rattle.screen_c.specs.declared.vt_state.VtState.{VtState}
 use Rattle.vt_cells.specs.Colours.{Rgb}
-use Rattle.vt_cells.specs.declared.cell.Cell.{Cell}
 use Rattle.vt_canvas.specs.Screen.{Screen}
 use Rattle.vt_redraw.specs.declared.leaving_out.LeftOut.{LeftOut}
 use Rattle.vt_canvas.specs.declared.out.Out.TheVariants.{Bell, Lights, Report, SwitchLast, SwitchTo}
 use Rattle.vt_canvas.specs.declared.out.Out.{Out}
 
-abbrev pub c_cell : Cell → VtCell
-c_cell cell = record { code = cell.code; attr = cell.attr; spare = replicate 3 0 }
-
 abbrev pub c_colour : Rgb → VtColour
 c_colour rgb = record { red = rgb.0; green = rgb.1; blue = rgb.2; spare = 0 }
-
--- 1 is yes and 0 is no
-abbrev pub c_flag : Bool → ℕ
-c_flag true = 1
-c_flag false = 0
 
 -- the sum of enum vt_left_out
 abbrev pub c_left_out : LeftOut → ℕ

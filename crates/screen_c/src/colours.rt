@@ -1,14 +1,15 @@
 //! The colours and the user's table of a screen.
 ghost use Rattle.std.specs.Prelude.{◌≡◌, ◌<◌, ◌≤◌, ◌⊎◌, map, slice_set, IfNone, IfSome, None, Some};
-ghost use Rattle.screen_c.specs.Codes.{NOTHING, OK, RANGE};
+ghost use Rattle.c_calls.specs.Codes.{NOTHING, OK, RANGE};
+ghost use Rattle.c_calls.specs.Places.{with_items};
 ghost use Rattle.screen_c.specs.Held.{with_emu};
 ghost use Rattle.screen_c.specs.Loans.{IsSameLoan};
-ghost use Rattle.screen_c.specs.Places.{with_items};
 ghost use Rattle.screen_c.specs.Shown.{c_colour};
 ghost use Rattle.vt_screen.specs.Tape.{with_change};
 ghost use Rattle.vt_canvas.specs.Change.{palette, user_map};
 
-use crate::{ScreenHandle, ScreenLoan, VtColour, code};
+use crate::{ScreenHandle, ScreenLoan, VtColour};
+use c_calls::{change, code, read};
 use std::alloc::Global;
 
 /// The colours of the numbers 0 to 15.
@@ -19,16 +20,10 @@ pub extern "C" fn vt_lent_screen_palette(loan: &mut ScreenLoan, colours: &mut [V
     ensures colours { IfSome loan.old.value (λ o. (result ≡ OK)
         × (colours.new ≡ with_items (map c_colour o.emu.state.state.palette) colours.old)) }
 {
-    let lent = loan.take();
-    let answer = match lent.get() {
-        None => code::NOTHING,
-        Some(screen) => {
-            put_colours(screen.emu.state().palette.as_slice(), colours);
-            code::OK
-        }
-    };
-    loan.put(lent);
-    answer
+    read!(loan, screen => {
+        put_colours(screen.emu.state().palette.as_slice(), colours);
+        code::OK
+    })
 }
 
 // Writes the colours into the first places.
@@ -60,21 +55,16 @@ pub extern "C" fn vt_screen_set_colour(
         (with_change (palette (slice_set old number (red, green, blue))) o.emu) o)))
         ⊎ ((result ≡ RANGE) × (16 ≤ number) × (handle.new.value ≡ Some o))) }
 {
-    match handle.take(alloc) {
-        None => code::NOTHING,
-        Some(owned) => {
-            let mut owned = owned;
-            let within = number < 16;
-            if within {
-                owned
-                    .emu
-                    .palette_mut()
-                    .set(number as u8, (red, green, blue));
-            }
-            handle.put(owned);
-            if within { code::OK } else { code::RANGE }
+    change!(handle, alloc, owned => {
+        let within = number < 16;
+        if within {
+            owned
+                .emu
+                .palette_mut()
+                .set(number as u8, (red, green, blue));
         }
-    }
+        if within { code::OK } else { code::RANGE }
+    })
 }
 
 /// Sets the user's table: a code point for each byte.
@@ -88,13 +78,8 @@ pub extern "C" fn vt_screen_set_user(
     ensures table { IfSome handle.old.value (λ o. (result ≡ OK)
         × (handle.new.value ≡ Some (with_emu (with_change (user_map words.now) o.emu) o))) }
 {
-    match handle.take(alloc) {
-        None => code::NOTHING,
-        Some(owned) => {
-            let mut owned = owned;
-            owned.emu.set_user(words);
-            handle.put(owned);
-            code::OK
-        }
-    }
+    change!(handle, alloc, owned => {
+        owned.emu.set_user(words);
+        code::OK
+    })
 }

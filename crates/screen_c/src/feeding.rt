@@ -1,6 +1,6 @@
 //! Runs text on a screen.
 ghost use Rattle.std.specs.Prelude.{◌≡◌, ◌<◌, ◌≤◌, ◌+◌, ◌++◌, drop, length, map, take, IfNone, IfSome, None, Some};
-ghost use Rattle.screen_c.specs.Codes.{NOTHING, OK};
+ghost use Rattle.c_calls.specs.Codes.{NOTHING, OK};
 ghost use Rattle.screen_c.specs.Fed.{IsFed};
 ghost use Rattle.screen_c.specs.Held.{with_emu};
 ghost use Rattle.screen_c.specs.Shown.{c_out};
@@ -8,7 +8,8 @@ ghost use Rattle.vt_screen.specs.Run.{after, outs_of_option};
 ghost use Rattle.vt_canvas.specs.Screen.{Screen};
 ghost use Rattle.vt_units.specs.Run.{Reached};
 
-use crate::{ScreenHandle, VtFed, VtOut, code};
+use crate::{ScreenHandle, VtFed, VtOut};
+use c_calls::code;
 use std::alloc::Global;
 use vt_screen::{Emu, SideEffect, any_cut};
 

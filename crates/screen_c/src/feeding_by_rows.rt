@@ -1,17 +1,19 @@
 //! Runs text on a screen, and keeps the rows that fall out at its top.
 ghost use Rattle.std.specs.List.{flat_map};
 ghost use Rattle.std.specs.Prelude.{◌≡◌, ◌<◌, ◌≤◌, ◌++◌, List, map, IfNone, IfSome, None, Some};
-ghost use Rattle.screen_c.specs.Codes.{NOTHING, NO_ROOM, OK};
+ghost use Rattle.c_calls.specs.Codes.{NOTHING, NO_ROOM, OK};
+ghost use Rattle.c_calls.specs.Places.{filled};
+ghost use Rattle.c_cells.specs.Cells.{c_cell};
+ghost use Rattle.c_cells.specs.declared.vt_cell.VtCell.{VtCell};
 ghost use Rattle.screen_c.specs.Fed.{IsFedByRows, rows_fitting};
 ghost use Rattle.screen_c.specs.Held.{with_emu};
-ghost use Rattle.screen_c.specs.Places.{filled};
-ghost use Rattle.screen_c.specs.Shown.{c_cell};
-ghost use Rattle.screen_c.specs.declared.vt_cell.VtCell.{VtCell};
 ghost use Rattle.vt_canvas.specs.Screen.{Screen};
 ghost use Rattle.vt_units.specs.Run.{Reached};
 
 use crate::feeding::put_effect;
-use crate::{ScreenHandle, VtCell, VtFed, VtOut, code};
+use crate::{ScreenHandle, VtFed, VtOut};
+use c_calls::code;
+use c_cells::VtCell;
 use std::alloc::Global;
 use vt_cells::Cell;
 use vt_screen::{Emu, FallenRows, SideEffect, any_cut, any_row_cut};

@@ -1,12 +1,10 @@
 //! The screen machine for programs in C: `vt_screen` of `libvt/include/vt.h`.
 #![tactic(auto)]
 
-mod code;
 mod colours;
 mod columns;
 mod feeding;
 mod feeding_by_rows;
-mod handing_over;
 mod handle;
 mod lent_screen;
 mod life;
@@ -18,19 +16,15 @@ mod picturing;
 mod reading;
 mod redrawing;
 mod sending;
-mod vt_cell;
 mod vt_colour;
 mod vt_fed;
-mod vt_modes;
 mod vt_out;
 mod vt_state;
 
 pub use handle::ScreenHandle;
 pub use loan::ScreenLoan;
 pub use owned_screen::OwnedScreen;
-pub use vt_cell::VtCell;
 pub use vt_colour::VtColour;
 pub use vt_fed::VtFed;
-pub use vt_modes::VtModes;
 pub use vt_out::VtOut;
 pub use vt_state::VtState;

@@ -1,12 +1,13 @@
 //! Makes, frees and resizes a screen.
 ghost use Rattle.std.specs.Prelude.{◌≡◌, ◌⊎◌, IfNone, IfOk, IfSome, None, Some};
-ghost use Rattle.screen_c.specs.Codes.{MADE, NOTHING, NO_MEMORY, OK, RANGE};
+ghost use Rattle.c_calls.specs.Codes.{MADE, NOTHING, NO_MEMORY, OK, RANGE};
 ghost use Rattle.screen_c.specs.Held.{new_screen, unmarked};
 ghost use Rattle.screen_c.specs.Sizes.{IsSize};
 ghost use Rattle.vt_screen.specs.Tape.{with_change};
 ghost use Rattle.vt_canvas.specs.Change.{resize};
 
-use crate::{OwnedScreen, ScreenHandle, code};
+use crate::{OwnedScreen, ScreenHandle};
+use c_calls::{change, code};
 use std::alloc::Global;
 use vt_base::{NoMemory, Size};
 use vt_grid::Grid;
@@ -68,15 +69,7 @@ pub extern "C" fn vt_screen_resize(
         × (handle.new.value ≡ Some (unmarked (with_change (resize rows cols) o.emu))))
         ⊎ ((result ≡ NO_MEMORY) × (handle.new.value ≡ Some o))) }
 {
-    match handle.take(alloc) {
-        None => code::NOTHING,
-        Some(owned) => {
-            let mut owned = owned;
-            let answer = owned.resize(alloc, rows, cols);
-            handle.put(owned);
-            answer
-        }
-    }
+    change!(handle, alloc, owned => owned.resize(alloc, rows, cols))
 }
 
 impl OwnedScreen {

@@ -1,14 +1,15 @@
 //! The rows that changed since the cells were marked.
 ghost use Rattle.std.specs.Prelude.{◌≡◌, ◌⊎◌, ◌<◌, IfNone, IfSome, IsTrue, None, Some};
-ghost use Rattle.screen_c.specs.Codes.{NOTHING, NO_MEMORY, OK};
+ghost use Rattle.c_calls.specs.Codes.{NOTHING, NO_MEMORY, OK};
+ghost use Rattle.c_calls.specs.Places.{with_items};
 ghost use Rattle.screen_c.specs.Held.{with_mark};
 ghost use Rattle.screen_c.specs.Loans.{IsSameLoan};
 ghost use Rattle.screen_c.specs.Marks.{changed_flags, is_as_marked, is_changed, is_same_size};
 ghost use Rattle.vt_redraw.specs.Redraw.{IsSameSize};
-ghost use Rattle.screen_c.specs.Places.{with_items};
-ghost use Rattle.screen_c.specs.Shown.{c_flag};
+ghost use Rattle.c_calls.specs.Flags.{c_flag};
 
-use crate::{OwnedScreen, ScreenHandle, ScreenLoan, code};
+use crate::{OwnedScreen, ScreenHandle, ScreenLoan};
+use c_calls::{change, code, read};
 use std::alloc::Global;
 use vt_grid::Grid;
 use vt_screen::BLANK;
@@ -21,15 +22,7 @@ pub extern "C" fn vt_screen_mark(handle: &mut ScreenHandle, alloc: Global) -> u8
         ((result ≡ OK) × (handle.new.value ≡ Some (with_mark o)))
         ⊎ ((result ≡ NO_MEMORY) × (handle.new.value ≡ Some o))) }
 {
-    match handle.take(alloc) {
-        None => code::NOTHING,
-        Some(owned) => {
-            let mut owned = owned;
-            let answer = owned.set_mark(alloc);
-            handle.put(owned);
-            answer
-        }
-    }
+    change!(handle, alloc, owned => owned.set_mark(alloc))
 }
 
 /// Writes whether each row differs from the marked cells, from the top: 1 or 0.
@@ -40,16 +33,10 @@ pub extern "C" fn vt_lent_screen_changed(loan: &mut ScreenLoan, rows: &mut [u8])
     ensures rows { IfSome loan.old.value (λ o. (result ≡ OK)
         × (rows.new ≡ with_items (changed_flags o.mark o.emu.state.grid) rows.old)) }
 {
-    let lent = loan.take();
-    let answer = match lent.get() {
-        None => code::NOTHING,
-        Some(screen) => {
-            put_flags(&screen.mark, screen.emu.grid(), rows);
-            code::OK
-        }
-    };
-    loan.put(lent);
-    answer
+    read!(loan, screen => {
+        put_flags(&screen.mark, screen.emu.grid(), rows);
+        code::OK
+    })
 }
 
 impl OwnedScreen {

@@ -1,19 +1,19 @@
 //! The nearest screen that a text can draw, as a text that draws it.
 ghost use Rattle.std.specs.Prelude.{◌≡◌, ◌↔◌, ◌≤◌, length, take, IfNone, IfOk, IfSome, IsTrue, None, Some};
-ghost use Rattle.screen_c.specs.Codes.{NOTHING, OK};
+ghost use Rattle.c_calls.specs.Codes.{NOTHING, OK};
+ghost use Rattle.c_calls.specs.Text.{HandsOver, IsWritten};
 ghost use Rattle.screen_c.specs.Loans.{IsSameLoan};
 ghost use Rattle.screen_c.specs.Marks.{IsAtMark, text_from_mark};
 ghost use Rattle.screen_c.specs.Shown.{c_left_out};
-ghost use Rattle.screen_c.specs.Text.{HandsOver, IsWritten};
 ghost use Rattle.vt_redraw.specs.Drawable.{is_redrawable};
 ghost use Rattle.vt_redraw.specs.Lengths.{redraw_most};
 ghost use Rattle.vt_redraw.specs.Near.{left_out, near};
 ghost use Rattle.vt_redraw.specs.Redraw.{IsSameSize, Redraws, redraw_of};
 ghost use Rattle.vt_canvas.specs.Screen.{IsWhole, Screen};
 
-use crate::handing_over::hand_over;
 use crate::marks::has_same_size;
-use crate::{OwnedScreen, ScreenLoan, code};
+use crate::{OwnedScreen, ScreenLoan};
+use c_calls::{code, hand_over, read};
 use std::alloc::Global;
 use vt_base::{Bytes, NoMemory};
 use vt_redraw::{LeftOut, left_out, near_is_drawn, redraw_changes_near, redraw_near};
@@ -26,17 +26,11 @@ pub extern "C" fn vt_lent_screen_left_out(loan: &mut ScreenLoan, parts: &mut u32
     ensures parts { IfSome loan.old.value (λ o. (result ≡ OK) × (parts.new ≡ c_left_out (left_out o.emu.state))) }
     ensures none { IfSome loan.old.value (λ o. (parts.new ≡ 0) ↔ IsTrue (is_redrawable o.emu.state)) }
 {
-    let lent = loan.take();
-    let answer = match lent.get() {
-        None => code::NOTHING,
-        Some(screen) => {
-            near_is_drawn();
-            *parts = number_of(left_out(&screen.emu));
-            code::OK
-        }
-    };
-    loan.put(lent);
-    answer
+    read!(loan, screen => {
+        near_is_drawn();
+        *parts = number_of(left_out(&screen.emu));
+        code::OK
+    })
 }
 
 /// The text that draws the nearest drawable screen on any screen of its size.

@@ -1,12 +1,12 @@
 //! A screen as a picture.
 ghost use Rattle.std.specs.Prelude.{◌≡◌, IfNone, IfSome};
-ghost use Rattle.screen_c.specs.Codes.{NOTHING};
+ghost use Rattle.c_calls.specs.Codes.{NOTHING};
+ghost use Rattle.c_calls.specs.Text.{HandsOver};
 ghost use Rattle.screen_c.specs.Loans.{IsSameLoan};
-ghost use Rattle.screen_c.specs.Text.{HandsOver};
 ghost use Rattle.vt_picture.specs.Picture.{picture_text};
 
-use crate::handing_over::hand_over;
-use crate::{OwnedScreen, ScreenLoan, code};
+use crate::{OwnedScreen, ScreenLoan};
+use c_calls::{code, hand_over, read};
 use std::alloc::Global;
 use vt_picture::picture;
 
@@ -23,13 +23,7 @@ pub extern "C" fn vt_lent_screen_picture(
     ensures text { IfSome loan.old.value (λ o.
         HandsOver (picture_text o.emu.state) text.old text.new count.old count.new result) }
 {
-    let lent = loan.take();
-    let answer = match lent.get() {
-        None => code::NOTHING,
-        Some(screen) => screen.picture(alloc, text, count),
-    };
-    loan.put(lent);
-    answer
+    read!(loan, screen => screen.picture(alloc, text, count))
 }
 
 impl OwnedScreen {

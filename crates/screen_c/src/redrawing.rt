@@ -1,17 +1,17 @@
 //! A screen as a text that draws it again.
 ghost use Rattle.std.specs.Prelude.{◌≡◌, ◌≤◌, false, length, take, IfNone, IfOk, IfSome, IsTrue, None, Some};
-ghost use Rattle.screen_c.specs.Codes.{NOTHING, NOT_DRAWABLE, OK};
+ghost use Rattle.c_calls.specs.Codes.{NOTHING, NOT_DRAWABLE, OK};
+ghost use Rattle.c_calls.specs.Text.{HandsOver, IsWritten};
 ghost use Rattle.screen_c.specs.Loans.{IsSameLoan};
 ghost use Rattle.screen_c.specs.Marks.{IsAtMark, text_from_mark};
-ghost use Rattle.screen_c.specs.Text.{HandsOver, IsWritten};
 ghost use Rattle.vt_redraw.specs.Drawable.{is_redrawable};
 ghost use Rattle.vt_redraw.specs.Lengths.{redraw_most};
 ghost use Rattle.vt_redraw.specs.Redraw.{IsSameSize, Redraws, redraw_of};
 ghost use Rattle.vt_canvas.specs.Screen.{IsWhole, Screen};
 
-use crate::handing_over::hand_over;
 use crate::marks::has_same_size;
-use crate::{OwnedScreen, ScreenLoan, code};
+use crate::{OwnedScreen, ScreenLoan};
+use c_calls::{code, hand_over, read};
 use std::alloc::Global;
 use vt_base::{Bytes, NoMemory};
 use vt_redraw::{redraw, redraw_changes, redrawable};
@@ -36,13 +36,7 @@ pub extern "C" fn vt_lent_screen_redraw(
     ensures bound { IfSome loan.old.value (λ o. IsWritten result
         → count.new ≤ redraw_most o.emu.state.grid.rows o.emu.state.grid.cols) }
 {
-    let lent = loan.take();
-    let answer = match lent.get() {
-        None => code::NOTHING,
-        Some(screen) => screen.redraw(alloc, text, count),
-    };
-    loan.put(lent);
-    answer
+    read!(loan, screen => screen.redraw(alloc, text, count))
 }
 
 /// The text that draws the screen again on one that shows the marked cells, or on any of its size if no cells of its
@@ -66,13 +60,7 @@ pub extern "C" fn vt_lent_screen_redraw_changes(
     ensures bound { IfSome loan.old.value (λ o. IsWritten result
         → count.new ≤ redraw_most o.emu.state.grid.rows o.emu.state.grid.cols) }
 {
-    let lent = loan.take();
-    let answer = match lent.get() {
-        None => code::NOTHING,
-        Some(screen) => screen.redraw_changes(alloc, text, count),
-    };
-    loan.put(lent);
-    answer
+    read!(loan, screen => screen.redraw_changes(alloc, text, count))
 }
 
 impl OwnedScreen {

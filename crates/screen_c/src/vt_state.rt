@@ -1,7 +1,7 @@
 ghost use Rattle.std.specs.Prelude.{◌≡◌};
-ghost use Rattle.screen_c.specs.Shown.{c_state};
+ghost use Rattle.screen_c.specs.Shown.{c_modes, c_state};
 
-use crate::VtModes;
+use c_calls::VtModes;
 use vt_screen::Emu;
 
 /// `struct vt_state`: the size, the cursor and the modes, each mode 1 or 0.
@@ -49,8 +49,21 @@ impl VtState {
             autowrap: u8::from(state.autowrap),
             insert: u8::from(state.insert),
             controls: u8::from(state.pen.display),
-            modes: VtModes::of(emu),
+            modes: modes_of(emu),
             spare: [0; 10],
         }
+    }
+}
+
+fn modes_of(emu: &Emu) -> VtModes
+    ensures { result ≡ c_modes emu.now.state }
+{
+    let state = emu.state();
+    VtModes {
+        cursor_keys: u8::from(state.cursor),
+        keypad: u8::from(state.keypad),
+        repeat: u8::from(state.repeat),
+        newline_mode: u8::from(state.newline),
+        spare: [0; 4],
     }
 }

@@ -1,6 +1,6 @@
 use Rattle.std.proofs.Common.{◌≡◌, IfSome, Option, Some, subst, sym, ap, ◌∙◌}
 use Rattle.machine.specs.MachineState.{MachineState}
-use Rattle.machine_c.specs.Codes.{RANGE}
+use Rattle.c_calls.specs.Codes.{RANGE}
 use Rattle.machine_c.specs.Started.{IsSeat}
 use Rattle.machine_c.proofs.admitting.vt_machine_admit.Goals as goal
 

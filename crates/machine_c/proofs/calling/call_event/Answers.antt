@@ -2,7 +2,7 @@ use Rattle.std.proofs.Common.{◌≡◌, ℕ, List, Some, inl, ⊎_elim, refl, a
 use Rattle.machine.specs.MachineState.{HasCalled, MachineState, next_entry}
 use Rattle.machine_c.proofs.Entered.{last_called, some_same}
 use Rattle.machine_c.specs.Calls.{places}
-use Rattle.machine_c.specs.Places.{with_items}
+use Rattle.c_calls.specs.Places.{with_items}
 use Rattle.machine_c.specs.Shown.{c_reply}
 use Rattle.machine_c.specs.declared.vt_reply.VtReply.{VtReply}
 use Rattle.vt_events.specs.Charge.{text_of_reply}

@@ -1,7 +1,7 @@
 use Rattle.std.proofs.Common.{◌≡◌, ℕ, ◌++◌, List, ap, sym, ◌∙◌, add-one, arith, drop, map, set, take}
 use Rattle.std.proofs.Math.ListN.{get_or-map}
 use Rattle.std.proofs.lemmas.List.{length-map, length-set}
-use Rattle.machine_c.proofs.Prefixes.{written_more}
+use Rattle.c_calls.proofs.Prefixes.{written_more}
 use Rattle.machine_c.specs.Shown.{c_mark}
 use Rattle.machine_c.specs.declared.vt_mark.VtMark.{VtMark}
 use Rattle.vt_switch.specs.declared.mark.Mark.{Mark}

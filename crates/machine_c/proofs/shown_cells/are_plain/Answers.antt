@@ -2,8 +2,8 @@ use Rattle.std.proofs.Common.{List, [], subst}
 use Rattle.std.specs.List.{All}
 use Rattle.std.proofs.lemmas.List.{take_all}
 use Rattle.std.proofs.lemmas.List.Elements.{All-more}
-use Rattle.machine_c.specs.Cells.{IsPlain}
-use Rattle.machine_c.specs.declared.vt_cell.VtCell.{VtCell}
+use Rattle.c_cells.specs.Cells.{IsPlain}
+use Rattle.c_cells.specs.declared.vt_cell.VtCell.{VtCell}
 use Rattle.machine_c.proofs.shown_cells.are_plain.Goals as goal
 
 pub loop-i-preserved : goal.loop-i-preserved

@@ -1,6 +1,6 @@
 use Rattle.std.proofs.Common.{take}
 use Rattle.std.specs.List.{All}
-use Rattle.machine_c.specs.Cells.{IsPlain}
+use Rattle.c_cells.specs.Cells.{IsPlain}
 use Rattle.machine_c.proofs.shown_cells.are_plain.Given as goal
 
 abbrev pub invariant-loop-i : goal.invariant-loop-i

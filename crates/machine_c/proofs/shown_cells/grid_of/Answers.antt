@@ -3,9 +3,10 @@ use Rattle.std.specs.List.{range_with_len}
 use Rattle.std.proofs.lemmas.List.FromFn.{get_or-map-range_with_len, length-map-range_with_len}
 use Rattle.std.proofs.lemmas.List.{drop_all, length-replicate, take_all}
 use Rattle.machine_c.proofs.Edited.{piece_is}
-use Rattle.machine_c.proofs.Prefixes.{written_more}
-use Rattle.machine_c.specs.Cells.{cell_of, row_of}
-use Rattle.machine_c.specs.declared.vt_cell.VtCell.{VtCell}
+use Rattle.c_calls.proofs.Prefixes.{written_more}
+use Rattle.c_cells.specs.Cells.{cell_of}
+use Rattle.machine_c.specs.Cells.{row_of}
+use Rattle.c_cells.specs.declared.vt_cell.VtCell.{VtCell}
 use Rattle.vt_cells.specs.declared.cell.Cell.{Cell}
 use Rattle.vt_grid.specs.Grid.{GridView}
 use Rattle.machine_c.proofs.shown_cells.grid_of.Goals as goal

@@ -1,9 +1,9 @@
 use Rattle.std.proofs.Common.{◌≡◌, ℕ, ◌<◌, ◌++◌, List, [], ap, sym, ◌∙◌, add-one, arith, drop, length, map, take}
 use Rattle.std.proofs.lemmas.List.{get_or-map, length-map}
 use Rattle.machine_c.proofs.Edited.{set_twice}
-use Rattle.machine_c.proofs.Prefixes.{written_more}
-use Rattle.machine_c.specs.Cells.{cell_of}
-use Rattle.machine_c.specs.declared.vt_cell.VtCell.{VtCell}
+use Rattle.c_calls.proofs.Prefixes.{written_more}
+use Rattle.c_cells.specs.Cells.{cell_of}
+use Rattle.c_cells.specs.declared.vt_cell.VtCell.{VtCell}
 use Rattle.vt_cells.specs.declared.cell.Cell.{Cell}
 use Rattle.vt_grid.specs.Grid.{GridView, row_at, with_cell, with_row}
 use Rattle.machine_c.proofs.shown_cells.put_row.Goals as goal

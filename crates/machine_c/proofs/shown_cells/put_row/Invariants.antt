@@ -1,5 +1,5 @@
 use Rattle.std.proofs.Common.{◌≡◌, ◌++◌, drop, map, take}
-use Rattle.machine_c.specs.Cells.{cell_of}
+use Rattle.c_cells.specs.Cells.{cell_of}
 use Rattle.vt_grid.specs.Grid.{row_at, with_row}
 use Rattle.machine_c.proofs.shown_cells.put_row.Given as goal
 

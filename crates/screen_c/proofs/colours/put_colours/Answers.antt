@@ -1,7 +1,7 @@
 use Rattle.std.proofs.Common.{◌≡◌, ℕ, ◌++◌, List, ap, sym, ◌∙◌, add-one, arith, drop, map, set, take}
 use Rattle.std.proofs.Math.ListN.{get_or-map}
 use Rattle.std.proofs.lemmas.List.{length-map, length-set}
-use Rattle.screen_c.proofs.Prefixes.{written_more}
+use Rattle.c_calls.proofs.Prefixes.{written_more}
 use Rattle.screen_c.specs.Shown.{c_colour}
 use Rattle.screen_c.specs.declared.vt_colour.VtColour.{VtColour}
 use Rattle.vt_cells.specs.Colours.{Rgb}

@@ -2,11 +2,12 @@ use Rattle.std.proofs.Common.{◌≡◌, ◌<◌, ℕ, zero, suc, ◌+◌, ◌-�
 use Rattle.std.proofs.lemmas.Grind.{flat_map-append}
 use Rattle.std.proofs.lemmas.List.{append-nil, length-append, length-take}
 use Rattle.std.specs.List.{flat_map}
-use Rattle.screen_c.proofs.Fillings.{filled_none}
+use Rattle.c_calls.proofs.Fillings.{filled_none}
 use Rattle.screen_c.proofs.Pieces.{count_more, outs_more, places_more, room_more, rows_more, rows_room_more, screen_more}
-use Rattle.screen_c.specs.Places.{with_items}
-use Rattle.screen_c.specs.Shown.{c_cell, c_out}
-use Rattle.screen_c.specs.declared.vt_cell.VtCell.{VtCell}
+use Rattle.c_calls.specs.Places.{with_items}
+use Rattle.c_cells.specs.Cells.{c_cell}
+use Rattle.screen_c.specs.Shown.{c_out}
+use Rattle.c_cells.specs.declared.vt_cell.VtCell.{VtCell}
 use Rattle.screen_c.specs.declared.vt_out.VtOut.{VtOut}
 use Rattle.vt_canvas.specs.declared.out.Out.{Out}
 use Rattle.vt_canvas.specs.Screen.{Screen}

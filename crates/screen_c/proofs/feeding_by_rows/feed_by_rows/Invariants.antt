@@ -1,8 +1,9 @@
 use Rattle.std.proofs.Common.{◌≡◌, ◌<◌, ◌≤◌, ◌+◌, ◌-◌, ◌++◌, ℕ, List, drop, length, map, take}
 use Rattle.std.specs.List.{flat_map}
-use Rattle.screen_c.specs.Places.{filled, with_items}
-use Rattle.screen_c.specs.Shown.{c_cell, c_out}
-use Rattle.screen_c.specs.declared.vt_cell.VtCell.{VtCell}
+use Rattle.c_calls.specs.Places.{filled, with_items}
+use Rattle.c_cells.specs.Cells.{c_cell}
+use Rattle.screen_c.specs.Shown.{c_out}
+use Rattle.c_cells.specs.declared.vt_cell.VtCell.{VtCell}
 use Rattle.vt_screen.specs.Falling.{rows_of_run}
 use Rattle.vt_screen.specs.Run.{after, outs_of_run}
 use Rattle.screen_c.proofs.feeding_by_rows.feed_by_rows.Given as goal

@@ -1,7 +1,7 @@
 use Rattle.std.proofs.Common.{◌≡◌, ◌+◌, ◌++◌, List, drop, length, map}
-use Rattle.screen_c.specs.Places.{filled}
-use Rattle.screen_c.specs.Shown.{c_cell}
-use Rattle.screen_c.specs.declared.vt_cell.VtCell.{VtCell}
+use Rattle.c_calls.specs.Places.{filled}
+use Rattle.c_cells.specs.Cells.{c_cell}
+use Rattle.c_cells.specs.declared.vt_cell.VtCell.{VtCell}
 use Rattle.screen_c.proofs.feeding_by_rows.put_row.Given as goal
 
 abbrev pub invariant-loop-i : goal.invariant-loop-i

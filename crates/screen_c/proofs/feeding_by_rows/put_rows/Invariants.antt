@@ -1,8 +1,8 @@
 use Rattle.std.proofs.Common.{◌≡◌, ◌++◌, List, drop, map}
 use Rattle.std.specs.List.{flat_map}
-use Rattle.screen_c.specs.Places.{filled}
-use Rattle.screen_c.specs.Shown.{c_cell}
-use Rattle.screen_c.specs.declared.vt_cell.VtCell.{VtCell}
+use Rattle.c_calls.specs.Places.{filled}
+use Rattle.c_cells.specs.Cells.{c_cell}
+use Rattle.c_cells.specs.declared.vt_cell.VtCell.{VtCell}
 use Rattle.screen_c.proofs.feeding_by_rows.put_rows.Given as goal
 
 abbrev pub invariant-loop-y : goal.invariant-loop-y

@@ -1,9 +1,9 @@
 use Rattle.std.proofs.Common.{◌≡◌, ℕ, ◌<◌, ◌++◌, List, ap, sym, ◌∙◌, add-one, arith, drop, length, set, take}
 use Rattle.std.proofs.lemmas.List.FromFn.{get_or-map-range_with_len, length-map-range_with_len}
 use Rattle.std.proofs.lemmas.List.{length-set}
-use Rattle.screen_c.proofs.Prefixes.{written_all, written_more}
+use Rattle.c_calls.proofs.Prefixes.{written_all, written_more}
 use Rattle.screen_c.specs.Marks.{changed_flags, is_changed}
-use Rattle.screen_c.specs.Shown.{c_flag}
+use Rattle.c_calls.specs.Flags.{c_flag}
 use Rattle.vt_grid.specs.Grid.{GridView}
 use Rattle.screen_c.proofs.marks.put_flags.Goals as goal
 

@@ -1,6 +1,6 @@
 use Rattle.std.proofs.Common.{◌≡◌, ℕ, List, take, subst, sym, ◌∙◌}
 use Rattle.screen_c.proofs.Cases.{at_none, at_some}
-use Rattle.screen_c.specs.Codes.{OK}
+use Rattle.c_calls.specs.Codes.{OK}
 use Rattle.screen_c.specs.Marks.{IsAtMark}
 use Rattle.vt_canvas.specs.Screen.{IsWhole, Screen}
 use Rattle.vt_redraw.specs.Near.{near}

@@ -1,0 +1,4 @@
+pub mod Codes
+pub mod Flags
+pub mod Places
+pub mod Text

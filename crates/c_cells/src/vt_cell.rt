@@ -1,0 +1,46 @@
+ghost use Rattle.std.specs.Prelude.{◌≡◌, ◌↔◌, IsTrue};
+ghost use Rattle.c_cells.specs.Cells.{IsPlain, c_cell, cell_of};
+
+use vt_cells::Cell;
+
+/// `struct vt_cell`.
+#[repr(C)]
+#[derive(Clone, Copy, Debug, PartialEq)]
+pub struct VtCell {
+    /// The code point, or that of a right half.
+    pub code: u32,
+    /// The attribute byte of a VGA text cell.
+    pub attr: u8,
+    /// 0.
+    pub spare: [u8; 3],
+}
+
+impl VtCell {
+    /// The cell as C gets it.
+    pub fn of(cell: Cell) -> VtCell
+        ensures { result ≡ c_cell cell }
+    {
+        VtCell {
+            code: cell.code,
+            attr: cell.attr,
+            spare: [0; 3],
+        }
+    }
+
+    /// The cell that C passes so.
+    pub fn cell(&self) -> Cell
+        ensures { result ≡ cell_of self.now }
+    {
+        Cell {
+            code: self.code,
+            attr: self.attr,
+        }
+    }
+
+    /// Whether no spare byte is set.
+    pub fn is_plain(&self) -> bool
+        ensures { IsTrue result ↔ IsPlain self.now }
+    {
+        self.spare == [0; 3]
+    }
+}
