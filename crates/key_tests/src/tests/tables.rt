@@ -1,4 +1,4 @@
-//! Key tables that are filled by hand, and their listing; of two equal pairs the first one is found.
+//! Key tables that are filled by hand, and their listing; of two pairs of the same characters the first one is found.
 use key_syms::{Action, Pair};
 use key_tables::KeyTables;
 use std::alloc::Global;
