@@ -43,10 +43,11 @@ IsLevelBefore count old text = (k : ℕ) → k < count → rows_of_run old (take
 abbrev pub AnyRowCut : Type 0
 AnyRowCut = (m : Reached Screen) (a b : List ℕ) → rows_of_run m (a ++ b) ≡ rows_of_run m a ++ rows_of_run (after m a) b
 
+-- how many bytes a sequence has, 0 if there is none
 abbrev pub count_of : Option Sequence → ℕ
 count_of None = 0
 count_of (Some one) = one.count
 
--- how many bytes the sequence has that is read at once, 0 if there is none
+-- how many bytes the sequence has that is read at once, 0 if there is none. No public clause names this
 abbrev pub bytes_ahead : Reached Screen → List ℕ → ℕ
 bytes_ahead m text = count_of (taken_ahead m.rest text)

@@ -1,4 +1,4 @@
-ghost use Rattle.std.specs.Prelude.{◌≡◌, ◌<◌, ◌≤◌, [], ◌∷◌, ◌++◌, length};
+ghost use Rattle.std.specs.Prelude.{◌≡◌, ◌<◌, ◌≤◌, [], take};
 ghost use Rattle.vt_grid.specs.Grid.{row_at};
 
 use std::marker::Model;
@@ -43,21 +43,7 @@ impl FallenRow {
         requires { 0 < grid.now.rows }
         ensures { self.new ≡ row_at grid.now 0 }
     {
-        grid.stays_full();
-        self.len = 0;
-        for cell in grid.row(0) {
-            self.push(cell);
-        }
-    }
-
-    // Adds a cell at the end.
-    #[inline(always)]
-    fn push(&mut self, cell: Cell)
-        requires { length self.old < 255 }
-        ensures { self.new ≡ self.old ++ cell ∷ [] }
-    {
-        self.cells[self.len] = cell;
-        self.len += 1;
+        self.len = copy_first_row(&mut self.cells, grid);
     }
 
     /// The cells.
@@ -66,4 +52,20 @@ impl FallenRow {
     {
         &self.cells[..self.len]
     }
+}
+
+// The first cells become those of the first row of the grid. Returns their number.
+#[inline(always)]
+fn copy_first_row(cells: &mut [Cell; MOST_CELLS], grid: &Grid) -> usize
+    requires { 0 < grid.now.rows }
+    ensures row { take result cells.new ≡ row_at grid.now 0 }
+    ensures few { result ≤ 255 }
+{
+    grid.stays_full();
+    let mut len = 0;
+    for cell in grid.row(0) {
+        cells[len] = cell;
+        len += 1;
+    }
+    len
 }
