@@ -12,7 +12,6 @@ ghost use Rattle.vt_events.specs.declared.event.Event.{Event};
 mod same;
 
 use crate::counts::Counts;
-use crate::laws::meant_laws;
 use session_text::{Program, Walk};
 use std::alloc::Global;
 use std::marker::Model;
@@ -61,7 +60,6 @@ impl SessionProgress {
             → ((made : List Call) → Stands program result.now made → e ≡ next program made)
             → e ≡ next_by programs p h }
     {
-        meant_laws();
         &self.walks[usize::from(p.get())]
     }
 
@@ -83,7 +81,6 @@ impl SessionProgress {
             → plain_reply entry.reply ≡ plain_reply r.now
             → AreAfter programs (h ++ entry ∷ []) self.new }
     {
-        meant_laws();
         let walk = &mut self.walks[usize::from(p.get())];
         walk.took(program, r);
         self.counts.add(p);

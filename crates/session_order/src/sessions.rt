@@ -4,10 +4,10 @@ ghost use Rattle.session_order.specs.Laws.{IsFromStart};
 ghost use Rattle.session_order.specs.Sessions.{AreOfCallers, LegalAreRight, setup_of, start_of};
 ghost use Rattle.vt_world.specs.Laws.{IsStart};
 
-use session_text::{Session, callers_have_programs};
+use session_text::Session;
 use std::alloc::Global;
 use vt_base::NoMemory;
-use vt_world::{World, displays_are_lawful, screens_are_tapes};
+use vt_world::World;
 
 /// The machine of the session's start.
 pub fn start_of(alloc: Global, s: &Session) -> Result<World, NoMemory>
@@ -24,10 +24,7 @@ pub fn session_laws(s: &Session)
     ensures programs { AreOfCallers s.now.programs }
     ensures right { LegalAreRight s.now }
 {
-    displays_are_lawful();
-    screens_are_tapes();
-    callers_have_programs();
     let config = s.config();
-    let _starts = config.procs.as_slice();
-    let _programs = s.programs();
+    let _starts = config.procs.as_slice(); // it says that the processes are few
+    let _programs = s.programs(); // it says that callers alone have programs
 }

@@ -1,9 +1,11 @@
 use Rattle.std.proofs.Common.{◌≡◌, ◌≤◌, length, refl, ap, ◌∙◌, subst, arith}
 use Rattle.session_order.proofs.Starts.{from_start, is_start, of_callers}
 use Rattle.session_order.specs.Sessions.{start_of}
+use Rattle.session_text.proofs.Stated.{callers_have_programs}
 use Rattle.session_text.specs.Sessions.{ArePrograms, SessionView}
 use Rattle.vt_base.specs.ConsoleSet.{IsFitSet}
 use Rattle.vt_procs.specs.declared.config.Config.{Config}
+use Rattle.vt_world.proofs.Stated.{displays_are_lawful-lawful, displays_are_lawful-waiting, screens_are_tapes-screens}
 use Rattle.vt_world.specs.Laws.{IsStart}
 use Rattle.session_order.proofs.sessions.session_laws.Goals as goal
 
@@ -35,7 +37,7 @@ returns-clause-programs c =
     let four : s.config.keyboards ≤ 4 =
     subst (λ (config : Config). config.keyboards ≤ 4) c.config-config.ensures.same
     c.config-config.ensures.keyboards.four in
-    of_callers c.callers_have_programs.ensures (length s.config.procs) s.config.keyboards s.programs few four
+    of_callers callers_have_programs (length s.config.procs) s.config.keyboards s.programs few four
     (are c)
 
 pub returns-clause-right : goal.returns-clause-right
@@ -44,8 +46,8 @@ returns-clause-right c = λ history end legal follows ends. record {
   legal = legal;
   follows = follows;
   ends = ends;
-  lawful = c.displays_are_lawful.ensures.lawful (start_of c.args.s.now) history (start c);
-  explained = c.displays_are_lawful.ensures.waiting (start_of c.args.s.now) history (start c);
+  lawful = displays_are_lawful-lawful (start_of c.args.s.now) history (start c);
+  explained = displays_are_lawful-waiting (start_of c.args.s.now) history (start c);
   screens = λ n within.
-      c.screens_are_tapes.ensures.screens (start_of c.args.s.now) history (start c) n within;
+      screens_are_tapes-screens (start_of c.args.s.now) history (start c) n within;
 }

@@ -1,5 +1,6 @@
 use Rattle.std.proofs.Common.{◌≡◌, List, get_or, set, sym, ap, ◌∙◌, subst, arith}
 use Rattle.session_order.proofs.Standings.{Took, taken}
+use Rattle.session_order.proofs.for_laws.Meant.{next-meant}
 use Rattle.session_order.specs.Standing.{AreAfter, SessionProgressView}
 use Rattle.session_text.specs.Walks.{Place}
 use Rattle.session_order.proofs.session_progress.SessionProgress.took.Goals as goal
@@ -24,5 +25,5 @@ returns c = λ programs h entry is at few by follows answer.
       counts = c.add.ensures;
       took = record { took = c.took.ensures };
     } in
-    taken c.meant_laws.ensures.next programs h entry c.args.p c.args.program.now c.args.r.now before after
+    taken next-meant programs h entry c.args.p c.args.program.now c.args.r.now before after
     took is (subst (AreAfter programs h) (sym c.self.view_is) at) few by follows answer
