@@ -13,8 +13,10 @@ N small sessions (60 without --sessions; from seed --first on) are made by order
 program, second_orders.py, goes through all orders: its answers, the least numbers of turns, and the numbers of states
 and calls have to be the same.
 
-Words that are no question and damaged sessions have to end with their status and line. Each request for memory is
-refused once, if there is a C compiler (cc): the run has to end as without it, or with status 4 and nothing on out.
+Words that are no question, damaged questions and damaged sessions have to end with their status and line. An order of
+more than 64 turns and one of more calls than the session's journal takes have to be found. Each request for memory is
+refused once, if there is a C compiler (cc), and runs get less and less memory: each has to end as without it, or with
+status 4 and nothing on out.
 
 Prints a line for each difference and last 'N passed, M failed'. Ends with status 1 if one fails, 2 if a program is
 missing or the words are wrong.
@@ -25,6 +27,7 @@ import json
 import pathlib
 import random
 import re
+import resource
 import shutil
 import subprocess
 import sys
@@ -55,14 +58,19 @@ REFUSED = [
     (["ended"], "rows = 0\n", 5, "explore: refused 23 at 0:"),
     (["ended"], "rows = \n", 5, "explore: refused 20 at 0:0"),
     (["ended"], "#" * 16_777_217, 6, "explore: input too long"),
+    (["ended"] * 1_023, "", 1, USAGE),
+    (["shows 1 \"" + "a" * 4_087 + "\""], "", 1, USAGE),
 ]
 LONG = 'consoles = [1]\n[[process]]\nscript = ["open 1"' + ', "getstate 0"' * 70 + "]\n"
 SMALL = 'consoles = [1, 2]\n[[process]]\nhome = 2\nscript = ["open 2", "activate 0 2"]\n'
+# Bytes of address space; with the last ones the program can't hold the machines of its search.
+ROOMS = [1 << 26, 1 << 25, 3 << 23, 1 << 24, 3 << 22, 5 << 21, 1 << 23]
 
 
-def run(command, given, more=None):
+def run(command, given, more=None, before=None):
     given = given if isinstance(given, bytes) else given.encode()
-    return subprocess.run(command, input=given, capture_output=True, timeout=SECONDS, check=False, env=more)
+    how = {"capture_output": True, "timeout": SECONDS, "check": False, "env": more, "preexec_fn": before}
+    return subprocess.run(command, input=given, **how)
 
 
 def answers(explore, session, questions, *words):
@@ -199,6 +207,21 @@ def damage_faults(explore, count):
             yield f"a damaged session: status {ran.returncode}, {ran.stderr!r}: {bytes(text)!r}"
 
 
+def question_faults(explore, count):
+    """Why a question with other bytes doesn't end as one that is read or refused."""
+    chance = random.Random(8)
+    for seed in range(count):
+        text = bytearray(order_sessions.questions(seed, 1)[0][0].encode())
+        for _ in range(chance.randint(1, 3)):
+            at = chance.randrange(len(text))
+            text[at : at + chance.randrange(3)] = bytes([chance.randrange(1, 256)]) * chance.randrange(2)
+            text = text or bytearray(b" ")
+        ran = run([explore, "--states", "5", bytes(text)], SMALL)
+        is_refused = ran.returncode == 1 and ran.stderr.startswith(b"explore: no question 1:") and not ran.stdout
+        if not is_refused and (ran.returncode, ran.stderr) != (0, b""):
+            yield f"a damaged question: status {ran.returncode}, {ran.stderr!r}: {bytes(text)!r}"
+
+
 def memory_faults(explore):
     """Why a run doesn't end well whose N-th request for memory is refused, for each N."""
     words = [explore, "ends 2", "waits p1"]
@@ -213,6 +236,41 @@ def memory_faults(explore):
             is_refused = ran.returncode == 4 and ran.stderr in lines and not ran.stdout
             if not is_refused and (ran.returncode, ran.stdout) != (0, whole.stdout):
                 yield f"request {number} for memory: status {ran.returncode}, {ran.stderr!r}"
+
+
+def room_faults(explore):
+    """Why a run with less memory doesn't end well, or none of them has too little."""
+    words, session = [explore, "stuck"], (SESSIONS / "servers.toml").read_bytes().replace(b"rows = 2\ncols = 10\n", b"")
+    whole, refused = run(words, session), 0
+    for room in ROOMS:
+        ran = run(words, session, None, lambda most=room: resource.setrlimit(resource.RLIMIT_AS, (most, most)))
+        is_refused = ran.returncode == 4 and ran.stderr == b"explore: no memory\n" and not ran.stdout
+        refused += is_refused
+        if not is_refused and (ran.returncode, ran.stdout) != (0, whole.stdout):
+            yield f"{room} bytes of memory: status {ran.returncode}, {ran.stderr!r}"
+    if not refused:
+        yield "every run had enough memory"
+
+
+def full_faults(explore, vt):
+    """Why an order of more calls than the session's journal takes isn't found, or its play isn't a beginning."""
+    session = "events = 3\n" + SMALL
+    each, counts = answers(explore, session, ["by p1 and call exit"])
+    if each is None or each[0]["answer"] != "found" or len(each[0]["calls"]) < 4:
+        yield f"an order longer than the journal: {each or counts}"
+        return
+    played = run([vt, "play"], with_turns(session, each[0]["turns"])).stdout.decode().split("\n")
+    end = next((i for i, line in enumerate(played) if line.startswith("%full")), 0)
+    if end != 4 or played[1:end] != each[0]["calls"][:3]:
+        yield f"the journal isn't a beginning: {played[: end + 1]}"
+
+
+def none_faults(explore):
+    """Why a limit of no state at all isn't one."""
+    for questions in (["ended"], []):
+        each, counts = answers(explore, SMALL, questions, "--states", "0")
+        if each is None or [answer["answer"] for answer in each] != ["limit"] * len(questions) or counts["all"]:
+            yield f"--states 0: {each or counts}"
 
 
 def long_faults(explore, vt):
@@ -240,7 +298,11 @@ def checks(explore, vt, first, count):
     for name, lines in cases().items():
         yield name, case_faults(explore, vt, name, lines)
     yield "a long order", long_faults(explore, vt)
+    yield "a full journal", full_faults(explore, vt)
+    yield "no states", none_faults(explore)
     yield "damaged sessions", damage_faults(explore, 200)
+    yield "damaged questions", question_faults(explore, 200)
+    yield "less memory", room_faults(explore)
     if shutil.which("cc"):
         yield "memory", memory_faults(explore)
     else:

@@ -1,4 +1,5 @@
 mod Calls
+mod Counts
 mod Finding
 mod Holding
 mod Journals

@@ -78,6 +78,12 @@ abbrev pub IfLimit : End → Type 0 → Type 0
 IfLimit stop.Limit fact = fact
 IfLimit end fact = ⊤
 
+-- how many states a search with this limit distinguished: one more than the limit exactly if it ended by it, and
+-- otherwise at most as many
+abbrev pub HasStates : End → ℕ → ℕ → Type 0
+HasStates stop.Limit limit states = states ≡ limit + 1
+HasStates end limit states = states ≤ limit
+
 -- if no such history has one, no right history of the session has one: that of a journal, ended or full
 abbrev pub NeverInJournals : Type 0
 NeverInJournals =

@@ -1,7 +1,9 @@
 -- Searches over orders. Public clauses name only `OpenedAreAll`.
-use Rattle.std.specs.Prelude.{◌≡◌, ◌<◌, ◌≤◌, ⊤, ℕ, Bool, true, false, List, [], ◌∷◌, ◌++◌, length, Some, None, slice_get}
+use Rattle.std.specs.Prelude.{◌≡◌, ◌<◌, ◌≤◌, ◌+◌, ⊤, ℕ, Bool, true, false, List, [], ◌∷◌, ◌++◌, length, Some, None, slice_get}
 use Rattle.vt_explore.specs.Alike.{HasLike}
 use Rattle.vt_explore.specs.Questions.{Wants}
+use Rattle.vt_explore.specs.declared.opened.Opened.{Opened}
+use Rattle.vt_explore.specs.declared.opened.Opened.TheVariants as opened
 use Rattle.vt_explore.specs.declared.tried.Tried.{Tried}
 use Rattle.vt_explore.specs.declared.tried.Tried.TheVariants as tried
 use Rattle.session_order.specs.Ends.{Setup}
@@ -75,6 +77,15 @@ abbrev pub OpenedAreAll : Type 0
 OpenedAreAll =
     (wants : Wants) (o : Setup) (known : List (List ℕ)) (n : ℕ) → HasLike o known [] → AreOpened wants o known n
     → slice_get known n ≡ None → NoneMakes wants o
+
+-- how many orders are known then: one more than the limit if there are too many, and otherwise at most as many
+abbrev pub HasCount : Opened → ℕ → ℕ → Type 0
+HasCount opened.Many limit count = count ≡ limit + 1
+HasCount t limit count = count ≤ limit
+
+abbrev pub IfAll : Opened → Type 0 → Type 0
+IfAll opened.All fact = fact
+IfAll t fact = ⊤
 
 abbrev pub IfKnown : Tried → Type 0 → Type 0
 IfKnown tried.Known fact = fact

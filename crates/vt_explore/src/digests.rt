@@ -1,16 +1,35 @@
 //! Digests of machines: numbers by which machines that differ mostly differ. Only time depends on them.
 use crate::position::Position;
-use vt_base::{CALLERS, CallerNo, ConsoleNo};
+use session_text::Session;
+use vt_base::{CALLERS, CallerNo, ConsoleNo, PROCESSES};
 use vt_procs::Waiting;
 use vt_world::World;
 
 impl Position {
-    /// A number by which machines that differ mostly differ.
-    pub(crate) fn digest(&self) -> u64 {
+    /// A number by which machines of this session that differ mostly differ.
+    pub(crate) fn digest(&self, s: &Session) -> u64 {
+        let count = s.programs().len();
         let mut digest = digest_of_display(&self.world);
-        digest = digest_of_callers(&self.world, digest);
-        digest = mixed(digest, self.standing.digest());
+        for n in 0..CALLERS {
+            // the processes, and the keyboards before and after them
+            if n < count || PROCESSES < n {
+                digest = self.digest_of_caller(n as u16, digest);
+            }
+        }
         digest
+    }
+
+    // The digest of the caller of this number, after the others.
+    fn digest_of_caller(&self, n: u16, start: u64) -> u64 {
+        let Some(p) = CallerNo::new(n) else {
+            return start;
+        };
+        let digest = mixed(start, self.standing.walk(p).digest());
+        if !self.world.live(p) {
+            return digest;
+        }
+        let signals = mixed(digest, self.world.signals_of(p).bits());
+        mixed(signals, digest_of_wait(self.world.wait_of(p)))
     }
 }
 
@@ -27,7 +46,11 @@ fn digest_of_display(world: &World) -> u64 {
     digest
 }
 
+// The digest of a console, if it is allocated, after the others.
 fn digest_of_console(world: &World, c: ConsoleNo, digest: u64) -> u64 {
+    if world.screen(c).is_none() {
+        return digest;
+    }
     let mut digest = digest;
     if let Some(owner) = world.owner(c) {
         digest = mixed(digest, 64 * u64::from(owner.get()) + u64::from(c.get()));
@@ -42,27 +65,12 @@ fn digest_of_console(world: &World, c: ConsoleNo, digest: u64) -> u64 {
     digest
 }
 
-// The digest of the callers that are alive, after this one.
-fn digest_of_callers(world: &World, start: u64) -> u64 {
-    let mut digest = start;
-    for n in 0..CALLERS as u16 {
-        if let Some(p) = CallerNo::new(n) {
-            if world.live(p) {
-                digest = mixed(digest, u64::from(n));
-                digest = mixed(digest, world.signals_of(p).bits());
-                digest = mixed(digest, digest_of_wait(world.wait_of(p)));
-            }
-        }
-    }
-    digest
-}
-
 fn digest_of_wait(wait: Waiting) -> u64 {
     match wait {
-        Waiting::Nothing => 0,
-        Waiting::Open(_) => 1,
-        Waiting::Done => 2,
-        Waiting::Broken => 3,
+        Waiting::Nothing => 1,
+        Waiting::Open(_) => 2,
+        Waiting::Done => 3,
+        Waiting::Broken => 4,
     }
 }
 

@@ -2,12 +2,12 @@ ghost use Rattle.std.specs.Prelude.{◌≡◌, ◌<◌, ℕ, List, [], ◌∷◌
 ghost use Rattle.session_order.specs.Sessions.{setup_of};
 ghost use Rattle.vt_explore.specs.Findings.{AreFirst, AreFoundFor, AreNone, is_found};
 ghost use Rattle.vt_explore.specs.Held.{IsPool};
-ghost use Rattle.vt_explore.specs.Questions.{AreFound, AreNever, IfAnswered, IfLimit, IfWhole};
+ghost use Rattle.vt_explore.specs.Questions.{AreFound, AreNever, HasStates, IfAnswered, IfLimit, IfWhole};
 
 use crate::findings::Findings;
+use crate::opened::Opened;
 use crate::pool::Pool;
 use crate::search::Search;
-use crate::tried::Tried;
 use crate::{End, Outcome, Progress, Question};
 use session_order::{meant_laws, order_laws, session_laws};
 use session_text::Session;
@@ -16,7 +16,7 @@ use vt_base::NoMemory;
 use vt_world::legal_grows;
 
 /// Goes through the orders of the session's calls, those with fewer turns first, until it has for each question
-/// an order in which a call is made that the question asks for, or has opened `limit` orders that lead to
+/// an order in which a call is made that the question asks for, or knows more than `limit` orders that lead to
 /// different states. If `whole`, it goes on after it has them.
 pub fn explore<Q: Question, P: Progress>(
     alloc: Global,
@@ -31,6 +31,7 @@ pub fn explore<Q: Question, P: Progress>(
     ensures never { IfOk result (λ outcome.
         IfWhole outcome.end (AreNever (map Q.wants questions.now) s.now outcome.found)) }
     ensures limit { IfOk result (λ outcome. IfLimit outcome.end (limit < outcome.states)) }
+    ensures states { IfOk result (λ outcome. HasStates outcome.end limit outcome.states) }
     ensures whole { IfOk result (λ outcome. whole ≡ true → IfAnswered outcome.end ⊥) }
     ensures answered { IfOk result (λ outcome.
         IfAnswered outcome.end ((i : ℕ) → slice_get outcome.found i ≡ Some None → ⊥)) }
@@ -41,7 +42,7 @@ pub fn explore<Q: Question, P: Progress>(
     legal_grows();
     let mut pool = Pool::start(alloc, s)?;
     let mut findings = Findings::none(alloc);
-    let mut search = Search::start(alloc, &pool)?;
+    let mut search = Search::start(alloc, s, &pool)?;
     let end = go_through(
         alloc,
         s,
@@ -80,29 +81,30 @@ fn go_through<Q: Question, P: Progress>(
     ensures first { OnOk result (AreFirst (map Q.wants questions.now) (setup_of s.now) findings.new) }
     ensures none { IfOk result (λ end.
         IfWhole end (AreNone (map Q.wants questions.now) (setup_of s.now) findings.new)) }
-    ensures limit { IfOk result (λ end. IfLimit end (limit < length search.new)) }
+    ensures states { IfOk result (λ end. HasStates end limit (length search.new)) }
     ensures whole { IfOk result (λ end. whole ≡ true → IfAnswered end ⊥) }
     ensures answered { IfOk result (λ end.
         IfAnswered end ((i : ℕ) → i < length questions.now → is_found findings.new i ≡ true)) }
 {
+    if limit == 0 {
+        return Ok(End::Limit);
+    }
     for next in 0..limit {
         let Some(order) = search.at(next) else {
             return Ok(End::Whole);
         };
         let base = pool.after(alloc, s, next, order, true)?;
-        let tried = search.expand(alloc, s, questions, pool, findings, &base)?;
+        let opened = search.expand(alloc, s, questions, limit, pool, findings, &base)?;
         pool.give(s, base)?;
-        match tried {
-            Tried::Full => return Ok(End::Long),
-            Tried::Known => {}
+        match opened {
+            Opened::Long => return Ok(End::Long),
+            Opened::Many => return Ok(End::Limit),
+            Opened::All => {}
         }
         progress.tell(search.len());
         if !whole && findings.have_all(questions.len()) {
             return Ok(End::Answered);
         }
     }
-    if search.has_at_most(limit) {
-        return Ok(End::Whole);
-    }
-    Ok(End::Limit)
+    Ok(End::Whole)
 }

@@ -9,6 +9,7 @@ mod fact;
 mod findings;
 mod held;
 mod laws;
+mod opened;
 mod order;
 mod orders;
 mod outcome;

@@ -7,7 +7,7 @@ pub enum End {
     Whole,
     /// An order was found for each question.
     Answered,
-    /// More orders were kept than the limit allows.
+    /// One order more was kept than the limit allows.
     Limit,
     /// An order has 1,000,000 turns, and a call can be made after it.
     Long,

@@ -16,13 +16,13 @@ use std::mem;
 use vt_base::NoMemory;
 
 /// The number of machines along the last order that was opened.
-const TRAIL: usize = 16;
+const TRAIL: usize = 8;
 
 /// One of so many machines along an order is kept.
-const STEP: usize = 4;
+const STEP: usize = 8;
 
 /// The number of machines after the orders that were found last.
-const RECENT: usize = 128;
+const RECENT: usize = 16;
 
 /// Machines that are kept. Which ones depends on no contract: a machine that isn't found is made again.
 #[derive(Drop)]

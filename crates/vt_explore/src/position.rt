@@ -1,4 +1,4 @@
-ghost use Rattle.std.specs.Prelude.{◌≡◌, ◌≤◌, ◌+◌, ◌<◌, ◌||◌, List, [], Option, Some, length, IfOk, IsTrue, OnOk};
+ghost use Rattle.std.specs.Prelude.{◌≡◌, ◌≤◌, ◌+◌, ◌<◌, List, [], Option, Some, length, IfOk, IsTrue, OnOk};
 ghost use Rattle.vt_explore.specs.Positions.{AreSame, HasMade, HaveSameTables, IsAfter};
 ghost use Rattle.session_order.specs.Orders.{after_turn};
 ghost use Rattle.session_order.specs.Ends.{Setup};
@@ -134,8 +134,7 @@ impl Position {
         let reply = self.world.call(alloc, p, event)?;
         self.standing.took(p, program, &reply);
         self.standing.forget(p, program);
-        let set = is_either(self.tables_set, sets_tables(event));
-        self.tables_set = set;
+        self.tables_set = self.tables_set | sets_tables(event);
         Ok(reply)
     }
 }
@@ -148,10 +147,4 @@ fn sets_tables(event: &Event) -> bool
         event,
         Event::SetEntry(..) | Event::SetFunc(..) | Event::SetDia(..)
     )
-}
-
-fn is_either(one: bool, other: bool) -> bool
-    ensures { result ≡ (one || other) }
-{
-    one || other
 }

@@ -7,11 +7,12 @@ ghost use Rattle.session_text.specs.Programs.{program_of};
 ghost use Rattle.vt_explore.specs.Alike.{Extends, HasLike};
 ghost use Rattle.vt_explore.specs.Held.{IsHeld, IsPool};
 ghost use Rattle.vt_explore.specs.Findings.{AddsFound, IsTried};
-ghost use Rattle.vt_explore.specs.Searches.{AreSorted, IfKnown};
+ghost use Rattle.vt_explore.specs.Searches.{AreSorted, HasCount, IfAll, IfKnown};
 
 use crate::Question;
 use crate::findings::Findings;
 use crate::held::Held;
+use crate::opened::Opened;
 use crate::order::{MOST_TURNS, Order};
 use crate::places::Places;
 use crate::pool::Pool;
@@ -42,11 +43,11 @@ impl Model for Search {
 
 impl Search {
     /// The order without turns alone.
-    pub(crate) fn start(alloc: Global, pool: &Pool) -> Result<Search, NoMemory>
+    pub(crate) fn start(alloc: Global, s: &Session, pool: &Pool) -> Result<Search, NoMemory>
         ensures { IfOk result (λ search. search ≡ [] ∷ []) }
     {
         let mut places = Places::new(alloc)?;
-        places.add(pool.first().position().digest())?;
+        places.add(pool.first().position().digest(s))?;
         let mut orders = Vec::new(alloc);
         orders.push(Order::none(alloc))?;
         Ok(Search {
@@ -83,16 +84,19 @@ impl Search {
         self.orders.get(place)
     }
 
-    /// Tries each call that can be made after the order of this machine, and adds to the findings.
+    /// Tries each call that can be made after the order of this machine, and adds to the findings. It stops when
+    /// there are more than `limit` orders.
     pub(crate) fn expand<Q: Question>(
         &mut self,
         alloc: Global,
         s: &Session,
         questions: &[Q],
+        limit: usize,
         pool: &mut Pool,
         findings: &mut Findings,
         base: &Held,
-    ) -> Result<Tried, NoMemory>
+    ) -> Result<Opened, NoMemory>
+        requires few { length self.now ≤ limit }
         requires pool { IsPool (setup_of s.now) pool.old }
         requires base { IsHeld (setup_of s.now) base.now }
         requires full { length (history_of (setup_of s.now) base.now.order) ≡ length base.now.order }
@@ -101,18 +105,22 @@ impl Search {
         ensures grows { OnOk result (Extends self.old self.new) }
         ensures sorted { OnOk result (AreSorted (setup_of s.now) self.new (length (history_of (setup_of s.now) base.now.order) + 1)) }
         ensures found { OnOk result (AddsFound (map Q.wants questions.now) (setup_of s.now) base.now.order findings.old findings.new) }
-        ensures known { IfOk result (λ t. IfKnown t ((p : ℕ) → IsTried (map Q.wants questions.now) findings.new
+        ensures known { IfOk result (λ t. IfAll t ((p : ℕ) → IsTried (map Q.wants questions.now) findings.new
             (setup_of s.now) self.new (history_of (setup_of s.now) base.now.order) p)) }
+        ensures count { IfOk result (λ t. HasCount t limit (length self.new)) }
     {
         session_laws(s);
         for n in 0..CALLERS as u8 {
             let tried = self.try_caller(alloc, s, questions, pool, findings, base, n)?;
+            if !self.has_at_most(limit) {
+                return Ok(Opened::Many);
+            }
             match tried {
                 Tried::Known => {}
-                Tried::Full => return Ok(Tried::Full),
+                Tried::Full => return Ok(Opened::Long),
             }
         }
-        Ok(Tried::Known)
+        Ok(Opened::All)
     }
 
     // Tries the call that this caller can make after the order of the machine, if it can make one.
@@ -137,6 +145,7 @@ impl Search {
         ensures found { OnOk result (AddsFound (map Q.wants questions.now) (setup_of s.now) base.now.order findings.old findings.new) }
         ensures known { IfOk result (λ t. IfKnown t (IsTried (map Q.wants questions.now) findings.new
             (setup_of s.now) self.new (history_of (setup_of s.now) base.now.order) n)) }
+        ensures one { OnOk result (length self.new ≤ length self.old + 1) }
     {
         let p = CallerNo::numbered(u16::from(n));
         let Some(program) = program_of(s.programs(), p) else {
@@ -179,6 +188,7 @@ impl Search {
         ensures found { OnOk result (AddsFound (map Q.wants questions.now) (setup_of s.now) base.now.order findings.old findings.new) }
         ensures known { IfOk result (λ t. IfKnown t (IsTried (map Q.wants questions.now) findings.new
             (setup_of s.now) self.new (history_of (setup_of s.now) base.now.order) p)) }
+        ensures one { OnOk result (length self.new ≤ length self.old + 1) }
     {
         let mut held = pool.copy(alloc, s, base)?;
         let reply = held.make(alloc, program, p, event)?;
@@ -212,8 +222,9 @@ impl Search {
         ensures grows { OnOk result (Extends self.old self.new) }
         ensures sorted { OnOk result (AreSorted (setup_of s.now) self.new (length (history_of (setup_of s.now) held.order))) }
         ensures known { OnOk result (HasLike (setup_of s.now) self.new (history_of (setup_of s.now) held.order)) }
+        ensures one { OnOk result (length self.new ≤ length self.old + 1) }
     {
-        let digest = held.position().digest();
+        let digest = held.position().digest(s);
         if self.knows(alloc, s, pool, &held, digest)? {
             pool.give(s, held)?;
             return Ok(());

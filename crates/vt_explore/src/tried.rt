@@ -1,8 +1,8 @@
-/// How the calls after an order were tried.
+/// How the call of a caller after an order was tried.
 #[derive(Clone, Copy)]
 pub(crate) enum Tried {
-    /// Each leads to a machine that is known.
+    /// It leads to a machine that is known, or there is none.
     Known,
-    /// An order would have too many turns.
+    /// The order would have too many turns.
     Full,
 }

@@ -1,6 +1,8 @@
-use Rattle.std.proofs.Common.{length, map}
+use Rattle.std.proofs.Common.{length, map, sym, subst}
+use Rattle.vt_explore.proofs.Counts.{limit_passed}
 use Rattle.vt_explore.proofs.Finding.{if_answered, if_whole, none_left}
 use Rattle.vt_explore.proofs.Journals.{found_are_right, never_are_right}
+use Rattle.vt_explore.specs.Questions.{HasStates}
 use Rattle.vt_explore.proofs.exploring.explore.Goals as goal
 
 pub returns-clause-found : goal.returns-clause-found
@@ -22,3 +24,11 @@ returns-clause-answered g c =
     if_answered c.in_ok-end.end
     (λ all. none_left c.go_through.new.findings (length c.args.questions.now) c.in_ok-found.found c.in_ok-found.ensures all)
     c.in_ok-end.ensures.answered
+
+pub returns-clause-states : goal.returns-clause-states
+returns-clause-states g c = subst (HasStates c.in_ok-end.end c.args.limit) (sym c.len.ensures) c.in_ok-end.ensures.states
+
+pub returns-clause-limit : goal.returns-clause-limit
+returns-clause-limit g c =
+    limit_passed c.in_ok-end.end c.args.limit c.len.result
+    (subst (HasStates c.in_ok-end.end c.args.limit) (sym c.len.ensures) c.in_ok-end.ensures.states)

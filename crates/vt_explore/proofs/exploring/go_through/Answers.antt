@@ -1,6 +1,5 @@
-use Rattle.std.proofs.Common.{◌≡◌, ℕ, ◌+◌, ◌≤◌, List, [], length, map, Some, None, arith, refl, sym, ap, ◌∙◌, subst}
+use Rattle.std.proofs.Common.{◌≡◌, ℕ, ◌+◌, List, [], length, map, Some, None, arith, refl, sym, ap, ◌∙◌, subst}
 use Rattle.std.proofs.lemmas.Option.{none-some}
-use Rattle.std.specs.Bool.{OnTrue}
 use Rattle.std.specs.Prelude.{slice_get}
 use Rattle.vt_explore.proofs.Finding.{first_more, tried_more}
 use Rattle.vt_explore.proofs.Holding.{found_none, found_some}
@@ -10,7 +9,7 @@ use Rattle.vt_explore.proofs.Sorted.{sorted_more, sorted_start}
 use Rattle.vt_explore.specs.Alike.{HasLike}
 use Rattle.vt_explore.specs.Findings.{IsTried}
 use Rattle.vt_explore.specs.Questions.{Wants}
-use Rattle.vt_explore.specs.Searches.{AreSorted, IfKnown}
+use Rattle.vt_explore.specs.Searches.{AreSorted, HasCount, IfAll}
 use Rattle.vt_explore.specs.declared.findings.Finding.{Finding}
 use Rattle.session_order.specs.Ends.{Setup}
 use Rattle.session_order.specs.Orders.{history_of}
@@ -28,6 +27,7 @@ loop-next-init g c =
       sorted = λ last at. subst (λ known. AreSorted o known (length (history_of o last) + 1)) (sym c.requires.search)
           (sorted_start o last (subst (λ known. slice_get known 0 ≡ Some last) c.requires.search at));
       first = λ k f at. absurd (none-some f (subst (λ all. slice_get all k ≡ Some f) c.requires.findings at));
+      few = omega (arith, ap length c.requires.search, c.if-limit-eq0.false);
     }
 
 pub loop-next-preserved : goal.loop-next-preserved
@@ -44,23 +44,24 @@ loop-next-preserved g c =
     found_some (λ order. order.now) c.at.result _ c.in-Some.order c.at.ensures c.in-Some.is
     ∙ ap Some (sym c.in_ok-base.ensures.order) in
     let known : (p : ℕ) → IsTried all new o b (history_of o last) p =
-    subst (λ t. IfKnown t ((p : ℕ) → IsTried all new o b (history_of o last) p)) c.in-Known.is c.in_ok-tried.ensures.known in
+    subst (λ t. IfAll t ((p : ℕ) → IsTried all new o b (history_of o last) p)) c.in-All.is c.in_ok-opened.ensures.known in
     record {
       pool = c.in_ok-give.ensures;
-      start = like_longer o a b [] c.in_ok-tried.ensures.grows c.loop-next.invariant.start;
+      start = like_longer o a b [] c.in_ok-opened.ensures.grows c.loop-next.invariant.start;
       tried =
-          tried_more all o a b n last old new c.in_ok-tried.ensures.grows c.in_ok-tried.ensures.found
+          tried_more all o a b n last old new c.in_ok-opened.ensures.grows c.in_ok-opened.ensures.found
           c.loop-next.invariant.tried here known;
       sorted = λ next at.
           let there : slice_get b n ≡ Some last =
-          subst (λ known. slice_get known n ≡ Some last) (sym c.in_ok-tried.ensures.grows.is)
-          (get_first a c.in_ok-tried.ensures.grows.more n last here) in
-          let rises = c.in_ok-tried.ensures.sorted.rises n (n + 1) last next (omega arith) there at in
+          subst (λ known. slice_get known n ≡ Some last) (sym c.in_ok-opened.ensures.grows.is)
+          (get_first a c.in_ok-opened.ensures.grows.more n last here) in
+          let rises = c.in_ok-opened.ensures.sorted.rises n (n + 1) last next (omega arith) there at in
           sorted_more o b (length (history_of o last) + 1) (length (history_of o next) + 1) (omega (arith, rises))
-          c.in_ok-tried.ensures.sorted;
+          c.in_ok-opened.ensures.sorted;
       first =
           first_more all o a n (length (history_of o last) + 1) last old new c.loop-next.invariant.start c.loop-next.invariant.tried
-          (c.loop-next.invariant.sorted last here) here c.in_ok-tried.ensures.found c.loop-next.invariant.first;
+          (c.loop-next.invariant.sorted last here) here c.in_ok-opened.ensures.found c.loop-next.invariant.first;
+      few = subst (λ t. HasCount t c.args.limit (length b)) c.in-All.is c.in_ok-opened.ensures.count;
     }
 
 pub returns-in_default-clause-none : goal.returns-in_default-clause-none
@@ -68,8 +69,8 @@ returns-in_default-clause-none g c = λ i wants at none.
     never_from wants (setup_of c.args.s.now) c.loop-next.search c.loop-next.next c.loop-next.invariant.start
     (c.loop-next.invariant.tried i wants at none) (found_none (λ order. order.now) c.at.result _ c.at.ensures c.in_default.is)
 
-pub returns-in-Full-clause-first : goal.returns-in-Full-clause-first
-returns-in-Full-clause-first g c =
+pub returns-in-Long-clause-first : goal.returns-in-Long-clause-first
+returns-in-Long-clause-first g c =
     let all : List Wants = map g.Q.Question.wants c.args.questions.now in
     let o : Setup = setup_of c.args.s.now in
     let last : List ℕ = c.in_ok-base.base.order in
@@ -78,7 +79,7 @@ returns-in-Full-clause-first g c =
     found_some (λ order. order.now) c.at.result _ c.in-Some.order c.at.ensures c.in-Some.is
     ∙ ap Some (sym c.in_ok-base.ensures.order) in
     first_more all o c.loop-next.search n (length (history_of o last) + 1) last c.loop-next.findings c.expand.new.findings
-    c.loop-next.invariant.start c.loop-next.invariant.tried (c.loop-next.invariant.sorted last here) here c.in_ok-tried.ensures.found
+    c.loop-next.invariant.start c.loop-next.invariant.tried (c.loop-next.invariant.sorted last here) here c.in_ok-opened.ensures.found
     c.loop-next.invariant.first
 
 pub returns-then-have_all-clause-first : goal.returns-then-have_all-clause-first
@@ -91,18 +92,30 @@ returns-then-have_all-clause-first g c =
     found_some (λ order. order.now) c.at.result _ c.in-Some.order c.at.ensures c.in-Some.is
     ∙ ap Some (sym c.in_ok-base.ensures.order) in
     first_more all o c.loop-next.search n (length (history_of o last) + 1) last c.loop-next.findings c.expand.new.findings
-    c.loop-next.invariant.start c.loop-next.invariant.tried (c.loop-next.invariant.sorted last here) here c.in_ok-tried.ensures.found
+    c.loop-next.invariant.start c.loop-next.invariant.tried (c.loop-next.invariant.sorted last here) here c.in_ok-opened.ensures.found
     c.loop-next.invariant.first
 
-pub returns-then-has_at_most-clause-none : goal.returns-then-has_at_most-clause-none
-returns-then-has_at_most-clause-none g c = λ i wants at none.
+pub returns-clause-none : goal.returns-clause-none
+returns-clause-none g c = λ i wants at none.
     let past : slice_get c.loop-next.search c.args.limit ≡ None =
-    get_past c.loop-next.search c.args.limit
-    (subst (λ is. OnTrue is (length c.loop-next.search ≤ c.args.limit)) c.if-has_at_most.true c.has_at_most.ensures.few) in
+    get_past c.loop-next.search c.args.limit c.loop-next.invariant.few in
     never_from wants (setup_of c.args.s.now) c.loop-next.search c.args.limit c.loop-next.invariant.start
     (λ k order p low is.
     c.loop-next.invariant.tried i wants at none k order p (omega (arith, low, c.loop-next-test.false)) is)
     past
+
+pub returns-in-Many-clause-first : goal.returns-in-Many-clause-first
+returns-in-Many-clause-first g c =
+    let all : List Wants = map g.Q.Question.wants c.args.questions.now in
+    let o : Setup = setup_of c.args.s.now in
+    let last : List ℕ = c.in_ok-base.base.order in
+    let n : ℕ = c.loop-next.next in
+    let here : slice_get c.loop-next.search n ≡ Some last =
+    found_some (λ order. order.now) c.at.result _ c.in-Some.order c.at.ensures c.in-Some.is
+    ∙ ap Some (sym c.in_ok-base.ensures.order) in
+    first_more all o c.loop-next.search n (length (history_of o last) + 1) last c.loop-next.findings c.expand.new.findings
+    c.loop-next.invariant.start c.loop-next.invariant.tried (c.loop-next.invariant.sorted last here) here c.in_ok-opened.ensures.found
+    c.loop-next.invariant.first
 
 pub expand-requires-clause-full : goal.expand-requires-clause-full
 expand-requires-clause-full g c =

@@ -1,4 +1,4 @@
-use Rattle.std.proofs.Common.{◌≡◌, ℕ, ◌+◌, List, [], length, map, Some}
+use Rattle.std.proofs.Common.{◌≡◌, ℕ, ◌+◌, ◌≤◌, List, [], length, map, Some}
 use Rattle.std.specs.Prelude.{slice_get}
 use Rattle.vt_explore.specs.Alike.{HasLike}
 use Rattle.vt_explore.specs.Findings.{AreFirst, AreTried}
@@ -18,4 +18,5 @@ invariant-loop-next g l = record {
       (last : List ℕ) → slice_get l.search l.next ≡ Some last
       → AreSorted (setup_of l.s) l.search (length (history_of (setup_of l.s) last) + 1);
   first : AreFirst (map g.Q.Question.wants l.questions) (setup_of l.s) l.findings;
+  few : length l.search ≤ l.limit;
 }

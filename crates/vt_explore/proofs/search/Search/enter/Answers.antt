@@ -1,4 +1,5 @@
-use Rattle.std.proofs.Common.{ℕ, [], ◌∷◌, ◌++◌, length, refl, sym, ◌∙◌, subst}
+use Rattle.std.proofs.Common.{ℕ, [], ◌∷◌, ◌++◌, arith, length, refl, sym, ap, ◌∙◌, subst}
+use Rattle.std.proofs.lemmas.List.{length_push}
 use Rattle.vt_explore.proofs.Nevers.{extends_same, like_itself}
 use Rattle.vt_explore.proofs.Sorted.{sorted_push}
 use Rattle.vt_explore.specs.Alike.{HasLike}
@@ -42,3 +43,10 @@ returns-clause-known c =
     ∙ (λ i. c.self.view_is i ++ (c.in_ok-order.ensures ∙ c.order.ensures) i ∷ [])))
     (like_itself (setup_of c.args.s.now) c.args.self.now c.args.held.order
     (history_of (setup_of c.args.s.now) c.args.held.order) refl)
+
+pub returns-clause-one : goal.returns-clause-one
+returns-clause-one c =
+    let more =
+    c.in_ok-push.ensures.items
+    ∙ (λ i. c.self.view_is i ++ (c.in_ok-order.ensures ∙ c.order.ensures) i ∷ []) in
+    omega (arith, ap length more, length_push c.args.self.now c.args.held.order)

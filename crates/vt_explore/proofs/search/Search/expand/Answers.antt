@@ -1,5 +1,5 @@
 use Rattle.std.proofs.Common.{ℕ, List, map, ⊎_elim, arith, below_more, subst}
-use Rattle.std.proofs.lemmas.Bool.{cases_lt}
+use Rattle.std.proofs.lemmas.Bool.{OnTrue_at, cases_lt}
 use Rattle.vt_explore.proofs.Finding.{adds_none, adds_trans, tried_longer}
 use Rattle.vt_explore.proofs.Nevers.{extends_same, extends_trans, now_past, opened_none}
 use Rattle.vt_explore.specs.Findings.{IsTried}
@@ -21,6 +21,7 @@ loop-n-init g c = record {
       adds_none (map g.Q.Question.wants c.args.questions.now) (setup_of c.args.s.now) c.args.base.now.order
       c.args.findings.now;
   tried = λ p low. absurd (let no : ⊥ = omega (arith, low) in no);
+  few = c.requires.few;
 }
 
 pub loop-n-preserved : goal.loop-n-preserved
@@ -44,6 +45,7 @@ loop-n-preserved g c =
           (λ p low. tried_longer all o a b h p order old new c.in_ok-tried.ensures.grows c.in_ok-tried.ensures.found
           (c.loop-n.invariant.tried p low))
           known;
+      few = OnTrue_at c.if-not-has_at_most.false c.has_at_most.ensures.few;
     }
 
 pub returns-in-Full-clause-grows : goal.returns-in-Full-clause-grows
@@ -94,3 +96,8 @@ returns-in-Full-clause-pool g c = c.in_ok-tried.ensures.pool
 
 pub try_caller-requires-clause-full : goal.try_caller-requires-clause-full
 try_caller-requires-clause-full g c = c.requires.full
+
+pub returns-then-not-has_at_most-clause-found : goal.returns-then-not-has_at_most-clause-found
+returns-then-not-has_at_most-clause-found g c =
+    adds_trans (map g.Q.Question.wants c.args.questions.now) (setup_of c.args.s.now) c.args.base.now.order c.args.findings.now
+    c.loop-n.findings c.try_caller.new.findings c.loop-n.invariant.found c.in_ok-tried.ensures.found

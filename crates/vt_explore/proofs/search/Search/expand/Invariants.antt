@@ -1,4 +1,4 @@
-use Rattle.std.proofs.Common.{ℕ, ◌+◌, ◌<◌, length, map}
+use Rattle.std.proofs.Common.{ℕ, ◌+◌, ◌<◌, ◌≤◌, length, map}
 use Rattle.vt_explore.specs.Alike.{Extends}
 use Rattle.vt_explore.specs.Findings.{AddsFound, IsTried}
 use Rattle.vt_explore.specs.Held.{IsPool}
@@ -18,4 +18,5 @@ invariant-loop-n g l = record {
   tried :
       (p : ℕ) → p < l.n
       → IsTried (map g.Q.Question.wants l.questions) l.findings (setup_of l.s) l.self (history_of (setup_of l.s) l.base.order) p;
+  few : length l.self ≤ l.limit;
 }

@@ -1,4 +1,4 @@
-use Rattle.std.proofs.Common.{◌≡◌, ℕ, ◌+◌, Bool, List, [], ◌∷◌, ◌++◌, length, map, Some, arith, sym, ap, ◌∙◌, subst}
+use Rattle.std.proofs.Common.{◌≡◌, ℕ, ◌+◌, ◌≤◌, Bool, List, [], ◌∷◌, ◌++◌, length, map, Some, arith, sym, ap, ◌∙◌, subst}
 use Rattle.std.proofs.lemmas.List.{length-map, length_push}
 use Rattle.vt_events.specs.Plain.{plain_reply}
 use Rattle.vt_explore.proofs.Finding.{found_passed, tried_passed}
@@ -24,6 +24,10 @@ returns-clause-pool g c = c.in_ok-enter.ensures.pool
 pub returns-clause-grows : goal.returns-clause-grows
 returns-clause-grows g c =
     subst (Extends c.args.self.now) (sym c.count.ensures) c.in_ok-enter.ensures.grows
+
+pub returns-clause-one : goal.returns-clause-one
+returns-clause-one g c =
+    subst (λ known. length known ≤ length c.args.self.now + 1) (sym c.count.ensures) c.in_ok-enter.ensures.one
 
 pub enter-requires-clause-pool : goal.enter-requires-clause-pool
 enter-requires-clause-pool g c = c.in_ok-held.ensures.pool
