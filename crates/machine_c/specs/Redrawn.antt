@@ -1,5 +1,5 @@
 -- The results of a call that draws a screen again.
-use Rattle.std.specs.Prelude.{◌≡◌, ◌⊎◌, ◌≤◌, ℕ, false, IsTrue, List, take}
+use Rattle.std.specs.Prelude.{◌≡◌, ◌⊎◌, ◌≤◌, ℕ, Bool, true, false, IsTrue, List, take}
 use Rattle.machine_c.specs.Cells.{AreCellsOf, grid_of}
 use Rattle.c_calls.specs.Codes.{NO_ROOM, NOT_DRAWABLE, OK, RANGE}
 use Rattle.c_calls.specs.Text.{HandsOver}
@@ -35,6 +35,11 @@ pub record DrawsNear (s : Screen) (old new : List ℕ) (old_count count code : �
       → Redraws (near s) other (take count new)
   pub short : IsShort s count code
 
+-- the same for this screen, or for the nearest that a text draws
+abbrev pub DrawsAs : Bool → Screen → List ℕ → List ℕ → ℕ → ℕ → ℕ → Type 0
+DrawsAs false s old new old_count count code = Draws s old new old_count count code
+DrawsAs true s old new old_count count code = DrawsNear s old new old_count count code
+
 -- the text draws this screen on every screen with these cells
 abbrev pub DrawsOver : GridView → Screen → List ℕ → Type 0
 DrawsOver grid s text = (other : Screen) → IsWhole other → other.grid ≡ grid → Redraws s other text
@@ -61,3 +66,8 @@ pub record DrawsNearFrom (s : Screen) (shown : List VtCell) (cols : ℕ) (old ne
       → HandsOver (changes_of (grid_of s.grid.rows s.grid.cols shown) (near s)) old new old_count count code
   pub again : code ≡ OK → DrawsOver (grid_of s.grid.rows s.grid.cols shown) (near s) (take count new)
   pub short : IsShort s count code
+
+-- one of these two
+abbrev pub DrawsAsFrom : Bool → Screen → List VtCell → ℕ → List ℕ → List ℕ → ℕ → ℕ → ℕ → Type 0
+DrawsAsFrom false s shown cols old new old_count count code = DrawsFrom s shown cols old new old_count count code
+DrawsAsFrom true s shown cols old new old_count count code = DrawsNearFrom s shown cols old new old_count count code

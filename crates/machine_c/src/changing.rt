@@ -3,7 +3,7 @@ ghost use Rattle.std.specs.Prelude.{◌≡◌, ◌≤◌, length, IfNone, IfOk, 
 ghost use Rattle.c_calls.specs.Codes.{NOTHING, RANGE};
 ghost use Rattle.machine_c.specs.Cells.{AreCellsOf, grid_of};
 ghost use Rattle.machine_c.specs.Loans.{IsSameLoan};
-ghost use Rattle.machine_c.specs.Redrawn.{DrawsFrom, DrawsNearFrom, DrawsOver, Refuses};
+ghost use Rattle.machine_c.specs.Redrawn.{DrawsAsFrom, DrawsFrom, DrawsNearFrom, DrawsOver, Refuses};
 ghost use Rattle.machine_c.specs.Shown.{console_at};
 ghost use Rattle.vt_redraw.specs.Drawable.{is_redrawable};
 ghost use Rattle.vt_redraw.specs.Lengths.{redraw_most};
@@ -40,7 +40,7 @@ pub extern "C" fn vt_lent_machine_redraw_changes(
         (Refuses text.old text.new count.old count.new RANGE result)
         (λ emu. DrawsFrom emu.state shown.now cols text.old text.new count.old count.new result)) }
 {
-    read!(loan, machine => change_console(machine, alloc, n, shown, cols, text, count))
+    read!(loan, machine => change_console(machine, alloc, n, false, shown, cols, text, count))
 }
 
 /// The text that draws the nearest drawable screen on a terminal of its size that shows these cells.
@@ -60,13 +60,14 @@ pub extern "C" fn vt_lent_machine_redraw_changes_near(
         (Refuses text.old text.new count.old count.new RANGE result)
         (λ emu. DrawsNearFrom emu.state shown.now cols text.old text.new count.old count.new result)) }
 {
-    read!(loan, machine => change_console_near(machine, alloc, n, shown, cols, text, count))
+    read!(loan, machine => change_console(machine, alloc, n, true, shown, cols, text, count))
 }
 
 fn change_console(
     machine: &Machine,
     alloc: Global,
     n: u32,
+    near: bool,
     shown: &[VtCell],
     cols: u32,
     text: &mut [u8],
@@ -74,30 +75,12 @@ fn change_console(
 ) -> u8
     ensures { MatchOption (emu_of (console_at machine.now.world n))
         (Refuses text.old text.new count.old count.new RANGE result)
-        (λ emu. DrawsFrom emu.state shown.now cols text.old text.new count.old count.new result) }
+        (λ emu. DrawsAsFrom near emu.state shown.now cols text.old text.new count.old count.new result) }
 {
     match screen_of(machine, n) {
         None => code::RANGE,
+        Some(emu) if near => change_screen_near(emu, alloc, shown, cols, text, count),
         Some(emu) => change_screen(emu, alloc, shown, cols, text, count),
-    }
-}
-
-fn change_console_near(
-    machine: &Machine,
-    alloc: Global,
-    n: u32,
-    shown: &[VtCell],
-    cols: u32,
-    text: &mut [u8],
-    count: &mut usize,
-) -> u8
-    ensures { MatchOption (emu_of (console_at machine.now.world n))
-        (Refuses text.old text.new count.old count.new RANGE result)
-        (λ emu. DrawsNearFrom emu.state shown.now cols text.old text.new count.old count.new result) }
-{
-    match screen_of(machine, n) {
-        None => code::RANGE,
-        Some(emu) => change_screen_near(emu, alloc, shown, cols, text, count),
     }
 }
 

@@ -2,7 +2,7 @@
 ghost use Rattle.std.specs.Prelude.{◌≡◌, IfNone, IfSome, MatchOption};
 ghost use Rattle.c_calls.specs.Codes.{NOTHING, RANGE};
 ghost use Rattle.machine_c.specs.Loans.{IsSameLoan};
-ghost use Rattle.machine_c.specs.Redrawn.{Draws, DrawsNear, Refuses};
+ghost use Rattle.machine_c.specs.Redrawn.{Draws, DrawsAs, DrawsNear, Refuses};
 ghost use Rattle.machine_c.specs.Shown.{console_at};
 ghost use Rattle.vt_world.specs.Terminals.{emu_of};
 
@@ -29,7 +29,7 @@ pub extern "C" fn vt_lent_machine_redraw(
         (Refuses text.old text.new count.old count.new RANGE result)
         (λ emu. Draws emu.state text.old text.new count.old count.new result)) }
 {
-    read!(loan, machine => redraw_console(machine, alloc, n, text, count))
+    read!(loan, machine => redraw_console(machine, alloc, n, false, text, count))
 }
 
 /// The text that draws the nearest drawable screen on any screen of its size.
@@ -47,40 +47,25 @@ pub extern "C" fn vt_lent_machine_redraw_near(
         (Refuses text.old text.new count.old count.new RANGE result)
         (λ emu. DrawsNear emu.state text.old text.new count.old count.new result)) }
 {
-    read!(loan, machine => redraw_console_near(machine, alloc, n, text, count))
+    read!(loan, machine => redraw_console(machine, alloc, n, true, text, count))
 }
 
 fn redraw_console(
     machine: &Machine,
     alloc: Global,
     n: u32,
+    near: bool,
     text: &mut [u8],
     count: &mut usize,
 ) -> u8
     ensures { MatchOption (emu_of (console_at machine.now.world n))
         (Refuses text.old text.new count.old count.new RANGE result)
-        (λ emu. Draws emu.state text.old text.new count.old count.new result) }
+        (λ emu. DrawsAs near emu.state text.old text.new count.old count.new result) }
 {
     match screen_of(machine, n) {
         None => code::RANGE,
+        Some(emu) if near => redraw_screen_near(emu, alloc, text, count),
         Some(emu) => redraw_screen(emu, alloc, text, count),
-    }
-}
-
-fn redraw_console_near(
-    machine: &Machine,
-    alloc: Global,
-    n: u32,
-    text: &mut [u8],
-    count: &mut usize,
-) -> u8
-    ensures { MatchOption (emu_of (console_at machine.now.world n))
-        (Refuses text.old text.new count.old count.new RANGE result)
-        (λ emu. DrawsNear emu.state text.old text.new count.old count.new result) }
-{
-    match screen_of(machine, n) {
-        None => code::RANGE,
-        Some(emu) => redraw_screen_near(emu, alloc, text, count),
     }
 }
 
