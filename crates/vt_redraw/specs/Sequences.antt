@@ -1,5 +1,6 @@
 -- The sequences that a screen is drawn with (console_codes(4)), as text.
-use Rattle.std.specs.Prelude.{ℕ, Bool, ◌+◌, ◌/◌, ◌%◌, ◌==◌, decimal, List, [], ◌∷◌, ◌++◌, nat_lt, if◌then◌else◌}
+use Rattle.std.specs.Prelude.{ℕ, Bool, ◌+◌, ◌/◌, ◌%◌, ◌==◌, decimal, List, [], ◌∷◌, ◌++◌, if◌then◌else◌}
+use Rattle.vt_base.specs.Digits.{hex_digit}
 use Rattle.vt_cells.specs.AttrByte.{vga}
 use Rattle.vt_cells.specs.Colours.{Rgb}
 
@@ -67,10 +68,7 @@ save_text = 0x1B ∷ 0x37 ∷ []
 unfoldable pub erase_text : List ℕ
 erase_text = sequence 0 [] 0x4B
 
--- a hexadecimal digit
-abbrev pub hex_digit : ℕ → ℕ
-hex_digit n = if nat_lt n 10 then 0x30 + n else 0x57 + n
-
+-- a byte in two hexadecimal digits, before more bytes
 abbrev pub hex_digits : ℕ → List ℕ → List ℕ
 hex_digits n more = hex_digit (n / 16) ∷ hex_digit (n % 16) ∷ more
 

@@ -8,7 +8,7 @@ ghost use Rattle.vt_cells.specs.declared.cell.Cell.{Cell};
 ghost use Rattle.vt_grid.specs.Grid.{row_at};
 
 use crate::pending::Pending;
-use crate::sequences::{add, add_erase, add_place};
+use crate::sequences::{add_erase, add_place};
 use std::alloc::Global;
 use vt_base::{Bytes, NoMemory};
 use vt_cells::{Cell, HALF};
@@ -90,7 +90,7 @@ fn add_change(alloc: Global, text: &mut Bytes, pending: &mut Pending, b: u8) -> 
     if pending.attr == u16::from(b) {
         return Ok(());
     }
-    add(alloc, text, pending.front.as_slice())?;
+    text.add(alloc, pending.front.as_slice())?;
     add_byte(alloc, text, b)?;
     pending.front.clear();
     pending.attr = u16::from(b);
@@ -109,12 +109,12 @@ fn add_last(
         ≡ text.old.bytes ++ pending_text erases pending.old []) }
 {
     if ends_with_erase(pending, erases) {
-        add(alloc, text, pending.front.as_slice())?;
+        text.add(alloc, pending.front.as_slice())?;
         add_erase(alloc, text)?;
         return Ok(());
     }
     pending.settle();
-    add(alloc, text, pending.front.as_slice())?;
+    text.add(alloc, pending.front.as_slice())?;
     Ok(())
 }
 
@@ -139,8 +139,8 @@ fn add_byte(alloc: Global, text: &mut Bytes, b: u8) -> Result<(), NoMemory>
 {
     let fg = b'0' + vga(b % 8);
     let bg = b'0' + vga(b / 16 % 8);
-    add(alloc, text, start_of_byte(b))?;
-    add(alloc, text, &[fg, b';', b'4', bg, b'm'])?;
+    text.add(alloc, start_of_byte(b))?;
+    text.add(alloc, &[fg, b';', b'4', bg, b'm'])?;
     Ok(())
 }
 

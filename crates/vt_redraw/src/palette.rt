@@ -1,11 +1,10 @@
 //! The palette, added to a text.
 ghost use Rattle.std.specs.Prelude.{◌≡◌, ◌<◌, ◌++◌, length, OnOk};
-ghost use Rattle.vt_redraw.specs.Sequences.{colour_text, hex_digit, start_palette_text};
+ghost use Rattle.vt_redraw.specs.Sequences.{colour_text, start_palette_text};
 ghost use Rattle.vt_redraw.specs.State.{colours_from, palette_text};
 
-use crate::sequences::add;
 use std::alloc::Global;
-use vt_base::{Bytes, NoMemory};
+use vt_base::{Bytes, NoMemory, hex_digit};
 use vt_cells::Palette;
 
 /// Adds the palette: that of the start, and then the colours that differ from it.
@@ -24,7 +23,7 @@ pub(crate) fn add_palette(
 fn add_start(alloc: Global, text: &mut Bytes) -> Result<(), NoMemory>
     ensures { OnOk result (text.new.bytes ≡ text.old.bytes ++ start_palette_text) }
 {
-    add(alloc, text, b"\x1b]R")
+    text.add(alloc, b"\x1b]R")
 }
 
 // Adds the colours that differ from those at the start, by their numbers.
@@ -54,9 +53,8 @@ fn add_colour(alloc: Global, text: &mut Bytes, n: u8, rgb: (u8, u8, u8)) -> Resu
     ensures { OnOk result (text.new.bytes ≡ text.old.bytes ++ colour_text n rgb) }
 {
     let (r, g, b) = rgb;
-    add(
+    text.add(
         alloc,
-        text,
         &[
             0x1B,
             b']',
@@ -70,11 +68,4 @@ fn add_colour(alloc: Global, text: &mut Bytes, n: u8, rgb: (u8, u8, u8)) -> Resu
             hex_digit(b % 16),
         ],
     )
-}
-
-fn hex_digit(n: u8) -> u8
-    requires { n < 16 }
-    ensures { result ≡ hex_digit n }
-{
-    if n < 10 { b'0' + n } else { b'a' - 10 + n }
 }

@@ -1,33 +1,16 @@
 //! Sequences, added to a text.
-ghost use Rattle.std.specs.Prelude.{◌≡◌, ◌<◌, ◌≤◌, ◌+◌, ◌++◌, [], ◌∷◌, OnOk, decimal};
+ghost use Rattle.std.specs.Prelude.{◌≡◌, ◌<◌, ◌≤◌, ◌+◌, ◌++◌, [], ◌∷◌, OnOk};
 ghost use Rattle.vt_redraw.specs.Sequences.{coding_text, erase_text, g0_text, g1_text, keypad_text, mode_text, more_numbers, place_text, private_mode_text, sequence, shift_text, table_letter};
 
-use itoa::Buffer;
 use std::alloc::Global;
 use vt_base::{Bytes, NoMemory};
-
-/// Adds bytes.
-pub(crate) fn add(alloc: Global, text: &mut Bytes, bytes: &[u8]) -> Result<(), NoMemory>
-    ensures { OnOk result (text.new.bytes ≡ text.old.bytes ++ bytes.now) }
-{
-    text.grow(alloc, bytes.len())?;
-    text.append(bytes);
-    Ok(())
-}
-
-fn add_number(alloc: Global, text: &mut Bytes, n: u8) -> Result<(), NoMemory>
-    ensures { OnOk result (text.new.bytes ≡ text.old.bytes ++ decimal n) }
-{
-    let mut number = Buffer::new();
-    add(alloc, text, number.format(n).as_bytes())
-}
 
 fn add_numbers(alloc: Global, text: &mut Bytes, numbers: &[u8]) -> Result<(), NoMemory>
     ensures { OnOk result (text.new.bytes ≡ text.old.bytes ++ more_numbers numbers.now) }
 {
     for n in numbers {
-        add(alloc, text, b";")?;
-        add_number(alloc, text, *n)?;
+        text.add(alloc, b";")?;
+        text.add_decimal(alloc, u64::from(*n))?;
     }
     Ok(())
 }
@@ -42,10 +25,10 @@ pub(crate) fn add_sequence(
 ) -> Result<(), NoMemory>
     ensures { OnOk result (text.new.bytes ≡ text.old.bytes ++ sequence n others.now last) }
 {
-    add(alloc, text, b"\x1b[")?;
-    add_number(alloc, text, n)?;
+    text.add(alloc, b"\x1b[")?;
+    text.add_decimal(alloc, u64::from(n))?;
     add_numbers(alloc, text, others)?;
-    add(alloc, text, &[last])
+    text.add(alloc, &[last])
 }
 
 /// Adds CUP: to a row and a column, both counted from 0.
@@ -75,9 +58,9 @@ pub(crate) fn add_private_mode(
 ) -> Result<(), NoMemory>
     ensures { OnOk result (text.new.bytes ≡ text.old.bytes ++ private_mode_text n on) }
 {
-    add(alloc, text, b"\x1b[?")?;
-    add_number(alloc, text, n)?;
-    add(alloc, text, &[if on { b'h' } else { b'l' }])
+    text.add(alloc, b"\x1b[?")?;
+    text.add_decimal(alloc, u64::from(n))?;
+    text.add(alloc, &[if on { b'h' } else { b'l' }])
 }
 
 /// Adds ESC % G or ESC % @.
@@ -85,7 +68,7 @@ pub(crate) fn add_private_mode(
 pub(crate) fn add_coding(alloc: Global, text: &mut Bytes, utf8: bool) -> Result<(), NoMemory>
     ensures { OnOk result (text.new.bytes ≡ text.old.bytes ++ coding_text utf8) }
 {
-    add(alloc, text, &[0x1B, b'%', if utf8 { b'G' } else { b'@' }])
+    text.add(alloc, &[0x1B, b'%', if utf8 { b'G' } else { b'@' }])
 }
 
 /// Adds SI or SO.
@@ -93,7 +76,7 @@ pub(crate) fn add_coding(alloc: Global, text: &mut Bytes, utf8: bool) -> Result<
 pub(crate) fn add_shift(alloc: Global, text: &mut Bytes, shift: u8) -> Result<(), NoMemory>
     ensures { OnOk result (text.new.bytes ≡ text.old.bytes ++ shift_text shift) }
 {
-    add(alloc, text, &[if shift == 0 { 0x0F } else { 0x0E }])
+    text.add(alloc, &[if shift == 0 { 0x0F } else { 0x0E }])
 }
 
 /// Adds DECPAM or DECPNM.
@@ -101,7 +84,7 @@ pub(crate) fn add_shift(alloc: Global, text: &mut Bytes, shift: u8) -> Result<()
 pub(crate) fn add_keypad(alloc: Global, text: &mut Bytes, on: bool) -> Result<(), NoMemory>
     ensures { OnOk result (text.new.bytes ≡ text.old.bytes ++ keypad_text on) }
 {
-    add(alloc, text, &[0x1B, if on { b'=' } else { b'>' }])
+    text.add(alloc, &[0x1B, if on { b'=' } else { b'>' }])
 }
 
 fn table_letter(table: u8) -> u8
@@ -120,7 +103,7 @@ fn table_letter(table: u8) -> u8
 pub(crate) fn add_g0(alloc: Global, text: &mut Bytes, table: u8) -> Result<(), NoMemory>
     ensures { OnOk result (text.new.bytes ≡ text.old.bytes ++ g0_text table) }
 {
-    add(alloc, text, &[0x1B, b'(', table_letter(table)])
+    text.add(alloc, &[0x1B, b'(', table_letter(table)])
 }
 
 /// Adds the sequence that designates G1.
@@ -128,7 +111,7 @@ pub(crate) fn add_g0(alloc: Global, text: &mut Bytes, table: u8) -> Result<(), N
 pub(crate) fn add_g1(alloc: Global, text: &mut Bytes, table: u8) -> Result<(), NoMemory>
     ensures { OnOk result (text.new.bytes ≡ text.old.bytes ++ g1_text table) }
 {
-    add(alloc, text, &[0x1B, b')', table_letter(table)])
+    text.add(alloc, &[0x1B, b')', table_letter(table)])
 }
 
 /// Adds EL: from the cursor to the end of its row.

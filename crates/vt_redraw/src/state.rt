@@ -8,7 +8,7 @@ use crate::cells::add_cells;
 use crate::modes::add_modes;
 use crate::palette::add_palette;
 use crate::pen::{add_attributes, add_pen, add_tables};
-use crate::sequences::{add, add_place, add_private_mode, add_sequence};
+use crate::sequences::{add_place, add_private_mode, add_sequence};
 use std::alloc::Global;
 use vt_base::{Bytes, NoMemory};
 use vt_screen::{Emu, Saved, ScreenState, Stops};
@@ -51,7 +51,7 @@ fn add_stop(alloc: Global, text: &mut Bytes, x: u8) -> Result<(), NoMemory>
         ≡ text.old.bytes ++ (sequence (x + 1) [] 0x47 ++ stop_text)) }
 {
     add_sequence(alloc, text, x + 1, &[], b'G')?;
-    add(alloc, text, b"\x1bH")
+    text.add(alloc, b"\x1bH")
 }
 
 // Adds the saved state.
@@ -65,7 +65,7 @@ fn add_saved(alloc: Global, text: &mut Bytes, v: &Saved) -> Result<(), NoMemory>
     add_attributes(alloc, text, &v.attr)?;
     add_tables(alloc, text, v.g0, v.g1, v.shift)?;
     add_place(alloc, text, v.y, v.x)?;
-    add(alloc, text, b"\x1b7")
+    text.add(alloc, b"\x1b7")
 }
 
 // Adds the region and origin mode.

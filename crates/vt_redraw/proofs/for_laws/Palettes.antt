@@ -10,7 +10,8 @@ use Rattle.std.proofs.lemmas.List.Folds.{list_all-append}
 use Rattle.vt_cells.specs.Colours.{Rgb, start_palette}
 use Rattle.vt_redraw.proofs.Does.{Does, does_nothing, does_then, does_to}
 use Rattle.vt_redraw.proofs.Numbers.{below_holds}
-use Rattle.vt_redraw.specs.Sequences.{colour_text, hex_digit, hex_digits, start_palette_text}
+use Rattle.vt_base.specs.Digits.{hex_digit}
+use Rattle.vt_redraw.specs.Sequences.{colour_text, hex_digits, start_palette_text}
 use Rattle.vt_redraw.specs.State.{colours_from, is_same_colour, palette_text}
 use Rattle.vt_canvas.specs.Effect.{effect}
 use Rattle.vt_screen.specs.Run.{ScreenAndOuts, PiecesAct, screen_effects, outs_of_option, run_from}

@@ -13,7 +13,7 @@ returns c =
     let fg_small : vga (b % 8) < 8 = omega (arith, fg, c.vga-fg.ensures.small) in
     let bg_small : vga (b / 16 % 8) < 8 = omega (arith, bg, c.vga-bg.ensures.small) in
     c.in_ok-add-2.ensures
-    ∙ (λ i. c.add.new.text.bytes ++ (0x30 + fg i) ∷ 0x3B ∷ 0x34 ∷ (0x30 + bg i) ∷ 0x6D ∷ [])
+    ∙ (λ i. c.add.new.self.bytes ++ (0x30 + fg i) ∷ 0x3B ∷ 0x34 ∷ (0x30 + bg i) ∷ 0x6D ∷ [])
     ∙ ap (λ (text : List ℕ). text ++ end_of_byte b)
     (c.in_ok-add.ensures ∙ ap (λ (text : List ℕ). before ++ text) c.start_of_byte.ensures)
     ∙ append_assoc before (start_of_byte b) (end_of_byte b)
