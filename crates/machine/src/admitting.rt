@@ -8,7 +8,6 @@ use crate::admit_error::AdmitError;
 use crate::machine::Machine;
 use vt_base::{CallerNo, PROCESSES};
 use vt_procs::{ProcList, ProcStart};
-use vt_world::rights_are_own;
 
 impl Machine {
     /// Whether it is a process of the machine's start.
@@ -61,7 +60,6 @@ impl Machine {
         requires silent { (made_by self.old p == 0) ≡ true }
         ensures { self.new ≡ as_started p rights self.old }
     {
-        rights_are_own();
         let n = usize::from(p.get());
         self.config.procs = with_rights(self.config.procs.as_slice(), n - 1, rights);
         self.world.admit(p, rights);

@@ -9,7 +9,6 @@ use crate::machine::Machine;
 use std::alloc::Global;
 use vt_base::CallerNo;
 use vt_events::{Entry, Event, charge};
-use vt_world::legal_grows;
 
 impl Machine {
     /// Makes a call of the caller, and enters it in the journal with its answer, which is that of
@@ -21,7 +20,6 @@ impl Machine {
             ↔ (HasRoom self.old.log (charge_of event) × (made_by self.old caller ≡ greatest_number)) }
         ensures left { OnErr result (self.new ≡ self.old) }
     {
-        legal_grows();
         let charge = charge(&event);
         let at = usize::from(caller.get());
         let seq = self.made[at];

@@ -12,7 +12,7 @@ use vt_base::{CALLERS, NoMemory};
 use vt_events::Entry;
 use vt_journal::{Limits, Log};
 use vt_procs::Config;
-use vt_world::{World, displays_are_lawful, legal_grows, screens_are_tapes};
+use vt_world::World;
 
 /// A machine and the journal of its last calls.
 #[derive(Drop)]
@@ -70,8 +70,7 @@ impl Machine {
           log = record { entries = []; limits = limits };
         }) }
     {
-        legal_grows();
-        let _few = config.procs.as_slice();
+        let _few = config.procs.as_slice(); // it says that the processes are few
         let world = World::start(alloc, &config, &tables)?;
         let log = Log::with_room(alloc, limits.events, limits.bytes)?;
         Ok(Machine {
@@ -97,8 +96,6 @@ impl Machine {
         ensures { ObeysLaws self.now }
     {
         let _ = &self.config;
-        displays_are_lawful();
-        screens_are_tapes();
     }
 
     /// Empties the journal, for instance after its lines were written to a file. Its memory stays.

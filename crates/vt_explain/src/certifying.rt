@@ -5,13 +5,11 @@ ghost use Rattle.vt_explain.specs.declared.hop_why.HopWhy.{HopWhy};
 ghost use Rattle.vt_world.specs.Laws.{moments};
 
 use crate::HopWhy;
-use crate::laws::certificates_explain;
 use crate::reader::Reader;
 use std::alloc::Global;
 use vt_base::NoMemory;
 use vt_check::Witness;
 use vt_events::Entry;
-use vt_switch::acts_tell_one_thing;
 use vt_world::{World, displays_are_lawful_from};
 
 /// The certificate of the switches that the calls of these entries make, one after another, from this machine on.
@@ -23,14 +21,12 @@ pub fn certificate(alloc: Global, start: World, entries: &[Entry]) -> Result<Vec
     ensures only { IfOk result (λ c. (other : List HopWhy)
         → IsCertificate (moments start entries.now) other → other ≡ c.items) }
 {
-    certificates_explain();
-    acts_tell_one_thing();
     displays_are_lawful_from(&start);
     let mut world = start;
     let mut reader = Reader::new(alloc);
     for i in 0..entries.len() {
         let entry = &entries[i];
-        let _reply = world.call(alloc, entry.caller, &entry.event)?;
+        let _reply = world.call(alloc, entry.caller, &entry.event)?; // the result has no use here
         reader.see(alloc, i as u32, entry, &world)?;
     }
     Ok(reader.into_items())

@@ -12,15 +12,13 @@ ghost use Rattle.vt_switch.specs.Law.{IsLawful};
 ghost use Rattle.vt_world.specs.Laws.{moments};
 
 use crate::comparing::compare;
-use crate::laws::{certificates_explain, one_acceptance};
 use crate::reader::Reader;
 use crate::{Explained, HopWhy, Judged};
 use session_text::Session;
 use std::alloc::Global;
 use vt_base::NoMemory;
-use vt_check::{Verdict, one_verdict, watch};
+use vt_check::{Verdict, watch};
 use vt_journal::Journal;
-use vt_switch::acts_tell_one_thing;
 
 /// The certificate of the journal's switches if the journal is legal, or its verdict.
 pub fn explain(alloc: Global, s: &Session, j: &Journal) -> Result<Explained, NoMemory>
@@ -33,9 +31,6 @@ pub fn explain(alloc: Global, s: &Session, j: &Journal) -> Result<Explained, NoM
     ensures only { IfOk result (λ x. IfCert x (λ c. (other : List HopWhy)
         → IsCertificate (moments (start_of s.now) j.now.entries) other → other ≡ c)) }
 {
-    certificates_explain();
-    acts_tell_one_thing();
-    one_verdict();
     let mut reader = Reader::new(alloc);
     let verdict = watch(alloc, s, j, &mut reader)?;
     match verdict {
@@ -46,6 +41,7 @@ pub fn explain(alloc: Global, s: &Session, j: &Journal) -> Result<Explained, NoM
 
 /// Whether the items are the certificate of the journal, if that is legal. It finds the certificate itself and
 /// trusts no item.
+#[tactic(auto, using(crate::proofs::Stated::one_acceptance))]
 pub fn accept(alloc: Global, s: &Session, j: &Journal, c: &[HopWhy]) -> Result<Judged, NoMemory>
     ensures accepts { IfOk result
         (Accepts (setup_of s.now) j.now.entries j.now.tail c.now) }
@@ -54,8 +50,6 @@ pub fn accept(alloc: Global, s: &Session, j: &Journal, c: &[HopWhy]) -> Result<J
     ensures lawful { IfOk result (λ r. r ≡ judged.Yes
         → IsLawful (moments (start_of s.now) j.now.entries)) }
 {
-    certificates_explain();
-    one_acceptance();
     let judged = judge_items(alloc, s, j, c)?;
     Ok(judged)
 }
@@ -63,7 +57,6 @@ pub fn accept(alloc: Global, s: &Session, j: &Journal, c: &[HopWhy]) -> Result<J
 fn judge_items(alloc: Global, s: &Session, j: &Journal, c: &[HopWhy]) -> Result<Judged, NoMemory>
     ensures { IfOk result (Accepts (setup_of s.now) j.now.entries j.now.tail c.now) }
 {
-    acts_tell_one_thing();
     let explained = explain(alloc, s, j)?;
     match explained {
         Explained::Cert(items) => {

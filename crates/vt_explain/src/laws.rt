@@ -3,25 +3,18 @@ ghost use Rattle.vt_explain.specs.Accepting.{OneAcceptance};
 ghost use Rattle.vt_explain.specs.CertText.{OneCert, PrintedIsRead, ReadIsPrinted};
 ghost use Rattle.vt_explain.specs.Certificates.{CertificatesAreGood, CertificatesExplain, OneCertificate, OneFirstBad};
 
-use vt_check::one_verdict;
-use vt_switch::acts_tell_one_thing;
-
 /// A certificate proves the display law of its history, and is the only one.
 pub fn certificates_explain()
     ensures explain { CertificatesExplain }
     ensures one { OneCertificate }
     ensures bad { OneFirstBad }
     ensures apart { CertificatesAreGood }
-{
-    acts_tell_one_thing();
-}
+{}
 
 /// A list of items has one judgement.
 pub fn one_acceptance()
     ensures { OneAcceptance }
-{
-    one_verdict();
-}
+{}
 
 /// A text is one certificate or has one fault. Reading a printed certificate gives it again, and no other text is
 /// read as one.

@@ -6,7 +6,6 @@ ghost use Rattle.vt_explain.specs.declared.hop_why.HopWhy.{HopWhy};
 ghost use Rattle.vt_journal.specs.Journal.{line_text};
 
 use crate::item_lines::{read_count, read_item};
-use crate::laws::one_cert;
 use crate::{CertError, HopWhy};
 use std::alloc::Global;
 use vt_base::NoMemory;
@@ -17,12 +16,12 @@ const GREATEST_LINE: usize = 4_294_967_295;
 
 /// The items of the text, which have one spelling, or the number of the first line that isn't well formed, at most
 /// 4,294,967,295.
+#[tactic(auto, using(crate::proofs::Certs::one_cert))]
 pub fn read_cert(alloc: Global, text: &[u8]) -> Result<Vec<HopWhy>, CertError>
     ensures says { Reads result (CertSays text.now) }
     ensures one { (said : Result (List HopWhy) ℕ) → CertSays text.now said
         → Reads result (λ s. s ≡ said) }
 {
-    one_cert();
     read_text(alloc, text)
 }
 

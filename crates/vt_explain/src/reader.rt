@@ -12,7 +12,7 @@ use vt_base::{ConsoleNo, NoMemory, Signal};
 use vt_check::Witness;
 use vt_events::Entry;
 use vt_switch::{Cause, Hop, Mark};
-use vt_world::{World, traces_tell_news};
+use vt_world::World;
 
 /// The items of the switches that were read, and the owner that was asked last to let the display go.
 #[derive(Drop)]
@@ -106,7 +106,6 @@ impl Witness for Reader {
         _entry: &Entry,
         after: &World,
     ) -> Result<(), NoMemory> {
-        traces_tell_news();
         self.read(place, after.trace())?;
         Ok(())
     }

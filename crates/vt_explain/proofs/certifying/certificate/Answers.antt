@@ -7,6 +7,7 @@ use Rattle.vt_explain.proofs.Certified.{certificate_is, found_is}
 use Rattle.vt_explain.specs.Certificates.{IsCertificate}
 use Rattle.vt_explain.specs.Finding.{HasRead, Known, is_at, known_after}
 use Rattle.vt_explain.specs.declared.hop_why.HopWhy.{HopWhy}
+use Rattle.vt_switch.proofs.Stated.{acts_tell_one_thing-hop, acts_tell_one_thing-news}
 use Rattle.vt_switch.specs.Moments.{Moment}
 use Rattle.vt_world.proofs.Histories.{replay_grows}
 use Rattle.vt_world.specs.History.{replay}
@@ -84,11 +85,11 @@ returns-clause-cert c =
     subst (IsCertificate history)
     (sym (found c.args.start c.args.entries.now c.loop-i.i c.into_items.result.items c.loop-i.reader c.loop-i-test.false
     c.into_items.ensures c.loop-i.invariant.read))
-    (found_is c.acts_tell_one_thing.ensures.news c.acts_tell_one_thing.ensures.hop history
+    (found_is acts_tell_one_thing-news acts_tell_one_thing-hop history
     (c.displays_are_lawful_from.ensures c.requires.quiet c.args.entries.now))
 
 pub returns-clause-only : goal.returns-clause-only
 returns-clause-only c = λ other is.
-    certificate_is c.acts_tell_one_thing.ensures.news (moments c.args.start c.args.entries.now) other is
+    certificate_is acts_tell_one_thing-news (moments c.args.start c.args.entries.now) other is
     ∙ sym (found c.args.start c.args.entries.now c.loop-i.i c.into_items.result.items c.loop-i.reader c.loop-i-test.false
     c.into_items.ensures c.loop-i.invariant.read)

@@ -6,12 +6,13 @@ use Rattle.vt_explain.specs.Accepting.{Compares, IfCert, verdict_of}
 use Rattle.vt_explain.specs.Certificates.{IsCertificate}
 use Rattle.vt_explain.specs.declared.explained.Explained.{Explained}
 use Rattle.vt_explain.specs.declared.hop_why.HopWhy.{HopWhy}
+use Rattle.vt_switch.proofs.Stated.{acts_tell_one_thing-news}
 use Rattle.vt_world.specs.Laws.{moments}
 use Rattle.vt_explain.proofs.explaining.judge_items.Goals as goal
 
 pub returns-in_ok-judged-in-Cert : goal.returns-in_ok-judged-in-Cert
 returns-in_ok-judged-in-Cert c =
-    compared c.acts_tell_one_thing.ensures.news (setup_of c.args.s.now) c.args.j.now.entries c.args.j.now.tail
+    compared acts_tell_one_thing-news (setup_of c.args.s.now) c.args.j.now.entries c.args.j.now.tail
     c.in-Cert.items.items c.args.c.now c.in_ok-judged-in-Cert.judged
     (subst (λ (x : Explained). Judges (setup_of c.args.s.now) c.args.j.now.entries c.args.j.now.tail (verdict_of x))
     c.in-Cert.is c.in_ok-explained.ensures.judges)

@@ -1,5 +1,5 @@
-use Rattle.vt_explain.proofs.Answered.{one_acceptance}
+use Rattle.vt_explain.proofs.Stated.{one_acceptance}
 use Rattle.vt_explain.proofs.laws.one_acceptance.Goals as goal
 
 pub returns : goal.returns
-returns c = one_acceptance c.one_verdict.ensures.one
+returns c = one_acceptance

@@ -4,6 +4,7 @@ use Rattle.machine.specs.MachineState.{HasCalled, MachineState}
 use Rattle.vt_events.specs.declared.entry.Entry.{Entry}
 use Rattle.vt_journal.specs.Log.{Logged}
 use Rattle.machine.proofs.Continued.{after_more}
+use Rattle.vt_world.proofs.Stated.{legal_grows-entered}
 use Rattle.machine.proofs.machine.Machine.call.Goals as goal
 
 pub invariant_of-self : goal.invariant_of-self
@@ -28,7 +29,7 @@ invariant_of-self c =
           c.call.new.self (set made k (get_or made k 0 + 1)))
           (sym same)
           (after_more s before l.entries c.self.inside.world c.call.new.self made c.args.caller c.args.event c.in-Ok.reply
-          c.legal_grows.ensures.entered c.self.invariant.after c.in-Ok.ensures.ok low (omega arith)));
+          legal_grows-entered c.self.invariant.after c.in-Ok.ensures.ok low (omega arith)));
     }
 
 pub returns-in-Ok-clause-called : goal.returns-in-Ok-clause-called

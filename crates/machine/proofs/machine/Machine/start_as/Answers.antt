@@ -6,6 +6,7 @@ use Rattle.machine.specs.MachineState.{MachineState}
 use Rattle.vt_events.specs.declared.entry.Entry.{Entry}
 use Rattle.vt_procs.specs.declared.config.Config.{Config}
 use Rattle.vt_procs.specs.declared.proc_start.ProcStart.{ProcStart}
+use Rattle.vt_world.proofs.Stated.{rights_are_own-first, rights_are_own-starts}
 use Rattle.vt_world.specs.State.{WorldState}
 use Rattle.machine.proofs.Admitted.{after_admission}
 use Rattle.machine.proofs.machine.Machine.start_as.Goals as goal
@@ -37,5 +38,5 @@ invariant_of-self c =
           (subst (λ (w : WorldState). IsAfter (with_process c.args.p c.args.rights s) all w c.self.inside.made)
           (sym c.admit.ensures)
           (after_admission s all c.self.inside.world c.self.inside.made c.args.p c.args.rights
-          c.rights_are_own.ensures.first c.rights_are_own.ensures.starts c.self.invariant.after low listed within zero));
+          rights_are_own-first rights_are_own-starts c.self.invariant.after low listed within zero));
     }

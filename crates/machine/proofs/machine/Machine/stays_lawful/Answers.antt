@@ -2,6 +2,7 @@ use Rattle.std.proofs.Common.{subst, ap, ◌∙◌, ◌++◌, List}
 use Rattle.vt_events.specs.declared.entry.Entry.{Entry}
 use Rattle.machine.specs.History.{Start, world_of}
 use Rattle.machine.specs.MachineState.{MachineState, ObeysLaws}
+use Rattle.vt_world.proofs.Stated.{displays_are_lawful-lawful, screens_are_tapes-screens}
 use Rattle.vt_world.specs.State.{WorldState}
 use Rattle.vt_world.specs.Terminals.{emu_of, terminal_at}
 use Rattle.machine.proofs.Afters.{is_start}
@@ -20,9 +21,9 @@ returns c =
     } in
     let here : ObeysLaws m = record {
       calls = c.self.invariant;
-      displays = c.displays_are_lawful.ensures.lawful (world_of s) all (is_start s c.self.invariant.after.fit);
+      displays = displays_are_lawful-lawful (world_of s) all (is_start s c.self.invariant.after.fit);
       screens = λ n low.
           ap (λ (w : WorldState). emu_of (terminal_at w.terminals n)) c.self.invariant.after.left.replayed
-          ∙ c.screens_are_tapes.ensures.screens (world_of s) all (is_start s c.self.invariant.after.fit) n low;
+          ∙ screens_are_tapes-screens (world_of s) all (is_start s c.self.invariant.after.fit) n low;
     } in
     subst (λ (x : MachineState). ObeysLaws x) c.self.view_is here

@@ -1,5 +1,6 @@
 use Rattle.std.proofs.Common.{arith}
 use Rattle.vt_explain.proofs.Listening.{next_read}
+use Rattle.vt_world.proofs.Stated.{traces_tell_news-moments, traces_tell_news-news}
 use Rattle.vt_explain.proofs.reader.ReaderWitness.see.Goals as goal
 
 pub read-requires-clause-new : goal.read-requires-clause-new
@@ -8,6 +9,6 @@ read-requires-clause-new c =
 
 pub returns-clause-seen : goal.returns-clause-seen
 returns-clause-seen c = λ first start before was next.
-    next_read c.traces_tell_news.ensures.news c.traces_tell_news.ensures.moments start before c.args.place
+    next_read traces_tell_news-news traces_tell_news-moments start before c.args.place
     c.args._entry.now c.args.after.now c.trace.result.now c.args.self.now c.read.new.self was next
     c.trace.ensures.marks c.in_ok-read.ensures
