@@ -9,7 +9,7 @@ import re
 from programs import TOP
 from tool_files import Stop
 
-from .crates import PARTS, PROGRAMS
+from .crates import PARTS, PROGRAMS, rows
 
 TACTIC = "#![tactic(auto)]\n"
 MAIN = "fn main(rt: HostRuntime) -> ExitCode {\n"
@@ -81,11 +81,12 @@ def exports(crate):
     return found
 
 
-def module_of_type(crate, name):
-    """The module in which a crate has a struct."""
-    for file in (TOP / f"crates/{crate}/src").glob("*.rt"):
-        if re.search(rf"\bstruct {name}\b", file.read_text(encoding="utf-8")):
-            return file.stem
+def path_of_type(crate, name):
+    """The path of a struct that a crate has in a module of its own, or a library that it uses at its top."""
+    for owner in (crate, *rows()[crate]):
+        for file in sorted((TOP / f"crates/{owner}/src").glob("*.rt")):
+            if re.search(rf"\bstruct {name}\b", file.read_text(encoding="utf-8")):
+                return f"crate::{crate}::{file.stem}::{name}" if owner == crate else f"{owner}::{name}"
     raise Stop(1, f"crates/{crate} has no struct {name}, which a call for C takes")
 
 
@@ -104,7 +105,7 @@ def reaching_module(crate):
     for module, name, types in exports(crate):
         uses.add(f"use crate::{crate}::{module}::{name};")
         kinds = re.findall(r"\b(?:Vt|Screen|Keys|Machine)\w+", " ".join(types))
-        uses.update(f"use crate::{crate}::{module_of_type(crate, kind)}::{kind};" for kind in kinds)
+        uses.update(f"use {path_of_type(crate, kind)};" for kind in kinds)
         lines += reaching_call(name, types)
         calls.append(f"    reach_{name}({', '.join(['None'] * len(types))});")
     head = ["//! Names each call for C.", *sorted(uses), "use std::alloc::Global;", ""]
