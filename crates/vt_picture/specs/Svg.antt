@@ -1,14 +1,11 @@
 -- Parts of an SVG text: the attributes of its elements, and rectangles.
-use Rattle.std.specs.Prelude.{ℕ, ◌+◌, ◌/◌, ◌%◌, nat_lt, List, [], ◌∷◌, ◌++◌, codes, decimal, if◌then◌else◌}
+use Rattle.std.specs.Prelude.{ℕ, ◌/◌, ◌%◌, List, [], ◌∷◌, ◌++◌, codes, decimal}
+use Rattle.vt_base.specs.Digits.{hex_digit}
 use Rattle.vt_cells.specs.Colours.{Rgb}
 
 -- the attribute of this name, whose value is a number
 unfoldable pub number_attribute : List ℕ → ℕ → List ℕ
 number_attribute name n = 0x20 ∷ name ++ (codes "='" ++ (decimal n ++ codes "'"))
-
--- a hexadecimal digit in lower case
-abbrev pub hex_digit : ℕ → ℕ
-hex_digit n = if nat_lt n 10 then 0x30 + n else 0x57 + n
 
 -- a byte in two digits
 unfoldable pub hex_pair : ℕ → List ℕ

@@ -1,27 +1,9 @@
 //! Parts of the picture's text, each added at its end.
-ghost use Rattle.std.specs.Prelude.{◌≡◌, ◌<◌, ◌++◌, decimal, OnOk};
-ghost use Rattle.vt_picture.specs.Svg.{fill_attribute, hex_digit, hex_pair, number_attribute, rectangle};
+ghost use Rattle.std.specs.Prelude.{◌≡◌, ◌++◌, OnOk};
+ghost use Rattle.vt_picture.specs.Svg.{fill_attribute, hex_pair, number_attribute, rectangle};
 
-use itoa::Buffer;
 use std::alloc::Global;
-use vt_base::{Bytes, NoMemory};
-
-/// Adds the bytes.
-pub(crate) fn add(alloc: Global, text: &mut Bytes, bytes: &[u8]) -> Result<(), NoMemory>
-    ensures { OnOk result (text.new.bytes ≡ text.old.bytes ++ bytes.now) }
-{
-    text.grow(alloc, bytes.len())?;
-    text.append(bytes);
-    Ok(())
-}
-
-/// Adds the number.
-pub(crate) fn add_number(alloc: Global, text: &mut Bytes, n: u16) -> Result<(), NoMemory>
-    ensures { OnOk result (text.new.bytes ≡ text.old.bytes ++ decimal n) }
-{
-    let mut buffer = Buffer::new();
-    add(alloc, text, buffer.format(n).as_bytes())
-}
+use vt_base::{Bytes, NoMemory, hex_digit};
 
 /// Adds the attribute of this name, whose value is the number.
 #[tactic(auto, unfolding(crate::specs::Svg::number_attribute))]
@@ -33,11 +15,11 @@ pub(crate) fn add_numbered(
 ) -> Result<(), NoMemory>
     ensures { OnOk result (text.new.bytes ≡ text.old.bytes ++ number_attribute name.now n) }
 {
-    add(alloc, text, b" ")?;
-    add(alloc, text, name)?;
-    add(alloc, text, b"='")?;
-    add_number(alloc, text, n)?;
-    add(alloc, text, b"'")
+    text.add(alloc, b" ")?;
+    text.add(alloc, name)?;
+    text.add(alloc, b"='")?;
+    text.add_decimal(alloc, u64::from(n))?;
+    text.add(alloc, b"'")
 }
 
 /// Adds the attribute that fills with the colour.
@@ -49,11 +31,11 @@ pub(crate) fn add_filled_with(
 ) -> Result<(), NoMemory>
     ensures { OnOk result (text.new.bytes ≡ text.old.bytes ++ fill_attribute colour) }
 {
-    add(alloc, text, b" fill='#")?;
+    text.add(alloc, b" fill='#")?;
     add_hex_pair(alloc, text, colour.0)?;
     add_hex_pair(alloc, text, colour.1)?;
     add_hex_pair(alloc, text, colour.2)?;
-    add(alloc, text, b"'")
+    text.add(alloc, b"'")
 }
 
 /// Adds a rectangle.
@@ -70,25 +52,18 @@ pub(crate) fn add_rectangle(
     ensures { OnOk result
         (text.new.bytes ≡ text.old.bytes ++ rectangle x y width height colour) }
 {
-    add(alloc, text, b"<rect")?;
+    text.add(alloc, b"<rect")?;
     add_numbered(alloc, text, b"x", x)?;
     add_numbered(alloc, text, b"y", y)?;
     add_numbered(alloc, text, b"width", width)?;
     add_numbered(alloc, text, b"height", height)?;
     add_filled_with(alloc, text, colour)?;
-    add(alloc, text, b"/>\n")
+    text.add(alloc, b"/>\n")
 }
 
 #[tactic(auto, unfolding(crate::specs::Svg::hex_pair))]
 fn add_hex_pair(alloc: Global, text: &mut Bytes, b: u8) -> Result<(), NoMemory>
     ensures { OnOk result (text.new.bytes ≡ text.old.bytes ++ hex_pair b) }
 {
-    add(alloc, text, &[hex_digit(b / 16), hex_digit(b % 16)])
-}
-
-fn hex_digit(n: u8) -> u8
-    requires { n < 16 }
-    ensures { result ≡ hex_digit n }
-{
-    if n < 10 { b'0' + n } else { b'a' - 10 + n }
+    text.add(alloc, &[hex_digit(b / 16), hex_digit(b % 16)])
 }

@@ -2,7 +2,6 @@
 ghost use Rattle.std.specs.Prelude.{◌≡◌, ◌++◌, encode_utf8, OnOk};
 ghost use Rattle.vt_picture.specs.Characters.{cell_text, markup_of, is_text};
 
-use crate::adding::add;
 use std::alloc::Global;
 use vt_base::{Bytes, NoMemory};
 use vt_cells::{Cell, HALF};
@@ -23,9 +22,9 @@ fn add_escaped(alloc: Global, text: &mut Bytes, code: u32) -> Result<(), NoMemor
     ensures { OnOk result (text.new.bytes ≡ text.old.bytes ++ markup_of code) }
 {
     match char::from_u32(code) {
-        Some('&') => add(alloc, text, b"&amp;"),
-        Some('<') => add(alloc, text, b"&lt;"),
-        Some('>') => add(alloc, text, b"&gt;"),
+        Some('&') => text.add(alloc, b"&amp;"),
+        Some('<') => text.add(alloc, b"&lt;"),
+        Some('>') => text.add(alloc, b"&gt;"),
         Some(c) if is_text(c) => add_char(alloc, text, c),
         _ => add_char(alloc, text, '\u{FFFD}'),
     }
@@ -35,7 +34,7 @@ fn add_char(alloc: Global, text: &mut Bytes, c: char) -> Result<(), NoMemory>
     ensures { OnOk result (text.new.bytes ≡ text.old.bytes ++ encode_utf8 c) }
 {
     let mut buffer = [0; 4];
-    add(alloc, text, c.encode_utf8(&mut buffer).as_bytes())
+    text.add(alloc, c.encode_utf8(&mut buffer).as_bytes())
 }
 
 fn is_text(c: char) -> bool

@@ -2,7 +2,6 @@
 ghost use Rattle.std.specs.Prelude.{◌≡◌, IfOk};
 ghost use Rattle.vt_picture.specs.Picture.{picture_text};
 
-use crate::adding::add;
 use crate::cursor::add_cursor;
 use crate::head::add_head;
 use crate::rows::add_rows;
@@ -20,6 +19,6 @@ pub fn picture(alloc: Global, emu: &Emu) -> Result<Bytes, NoMemory>
     add_head(alloc, &mut text, emu)?;
     add_rows(alloc, &mut text, emu.state(), emu.grid())?;
     add_cursor(alloc, &mut text, emu)?;
-    add(alloc, &mut text, b"</svg>\n")?;
+    text.add(alloc, b"</svg>\n")?;
     Ok(text)
 }

@@ -2,7 +2,7 @@
 ghost use Rattle.std.specs.Prelude.{◌≡◌, ◌++◌, OnOk};
 ghost use Rattle.vt_picture.specs.Picture.{cursor_words, description_text, head_text, opening_tag, place_words, size_words, style, title_text};
 
-use crate::adding::{add, add_number, add_numbered};
+use crate::adding::add_numbered;
 use crate::rows::{CELL_HEIGHT, CELL_WIDTH};
 use std::alloc::Global;
 use vt_base::{Bytes, NoMemory};
@@ -24,37 +24,38 @@ fn add_opening_tag(alloc: Global, text: &mut Bytes, g: &Grid) -> Result<(), NoMe
     ensures { OnOk result (text.new.bytes ≡ text.old.bytes ++ opening_tag g.now) }
 {
     let size = g.size();
-    add(
+    text.add(
         alloc,
-        text,
         b"<svg xmlns='http://www.w3.org/2000/svg' xml:space='preserve'",
     )?;
-    add(
+    text.add(
         alloc,
-        text,
         b" font-family='monospace' font-size='13.3' shape-rendering='crispEdges'",
     )?;
     add_numbered(alloc, text, b"width", CELL_WIDTH * u16::from(size.cols))?;
     add_numbered(alloc, text, b"height", CELL_HEIGHT * u16::from(size.rows))?;
-    add(alloc, text, b">\n")
+    text.add(alloc, b">\n")?;
+    Ok(())
 }
 
 fn add_title(alloc: Global, text: &mut Bytes, g: &Grid) -> Result<(), NoMemory>
     ensures { OnOk result (text.new.bytes ≡ text.old.bytes ++ title_text g.now) }
 {
-    add(alloc, text, b"<title>A screen of ")?;
+    text.add(alloc, b"<title>A screen of ")?;
     add_size_words(alloc, text, g)?;
-    add(alloc, text, b"</title>\n")
+    text.add(alloc, b"</title>\n")?;
+    Ok(())
 }
 
 fn add_description(alloc: Global, text: &mut Bytes, emu: &Emu) -> Result<(), NoMemory>
     ensures { OnOk result (text.new.bytes ≡ text.old.bytes ++ description_text emu.now.state) }
 {
-    add(alloc, text, b"<desc>A text console of ")?;
+    text.add(alloc, b"<desc>A text console of ")?;
     add_size_words(alloc, text, emu.grid())?;
-    add(alloc, text, b". ")?;
+    text.add(alloc, b". ")?;
     add_cursor_words(alloc, text, emu.state())?;
-    add(alloc, text, b"</desc>\n")
+    text.add(alloc, b"</desc>\n")?;
+    Ok(())
 }
 
 #[tactic(auto, unfolding(crate::specs::Picture::size_words))]
@@ -62,10 +63,10 @@ fn add_size_words(alloc: Global, text: &mut Bytes, g: &Grid) -> Result<(), NoMem
     ensures { OnOk result (text.new.bytes ≡ text.old.bytes ++ size_words g.now) }
 {
     let size = g.size();
-    add_number(alloc, text, u16::from(size.rows))?;
-    add(alloc, text, b" rows and ")?;
-    add_number(alloc, text, u16::from(size.cols))?;
-    add(alloc, text, b" columns")
+    text.add_decimal(alloc, u64::from(size.rows))?;
+    text.add(alloc, b" rows and ")?;
+    text.add_decimal(alloc, u64::from(size.cols))?;
+    text.add(alloc, b" columns")
 }
 
 fn add_cursor_words(alloc: Global, text: &mut Bytes, state: &ScreenState) -> Result<(), NoMemory>
@@ -74,37 +75,35 @@ fn add_cursor_words(alloc: Global, text: &mut Bytes, state: &ScreenState) -> Res
     if state.visible {
         add_place_words(alloc, text, state)
     } else {
-        add(alloc, text, b"The cursor is hidden.")
+        text.add(alloc, b"The cursor is hidden.")
     }
 }
 
 fn add_place_words(alloc: Global, text: &mut Bytes, state: &ScreenState) -> Result<(), NoMemory>
     ensures { OnOk result (text.new.bytes ≡ text.old.bytes ++ place_words state.now) }
 {
-    add(alloc, text, b"The cursor is in row ")?;
-    add_number(alloc, text, u16::from(state.y) + 1)?;
-    add(alloc, text, b" and column ")?;
-    add_number(alloc, text, u16::from(state.x) + 1)?;
-    add(alloc, text, b".")
+    text.add(alloc, b"The cursor is in row ")?;
+    text.add_decimal(alloc, u64::from(state.y) + 1)?;
+    text.add(alloc, b" and column ")?;
+    text.add_decimal(alloc, u64::from(state.x) + 1)?;
+    text.add(alloc, b".")?;
+    Ok(())
 }
 
 #[tactic(auto, unfolding(crate::specs::Picture::style))]
 fn add_style(alloc: Global, text: &mut Bytes) -> Result<(), NoMemory>
     ensures { OnOk result (text.new.bytes ≡ text.old.bytes ++ style) }
 {
-    add(
+    text.add(
         alloc,
-        text,
         b"<style>text{white-space:pre}.bold{font-weight:bold}",
     )?;
-    add(
+    text.add(
         alloc,
-        text,
         b".blink{animation:blink 1s steps(2,start) infinite}@keyframes blink{to{visibility:hidden}}",
     )?;
-    add(
+    text.add(
         alloc,
-        text,
         b"@media(prefers-reduced-motion:reduce){.blink{animation:none}}</style>\n",
     )
 }

@@ -6,7 +6,7 @@ ghost use Rattle.vt_picture.specs.Characters.{cell_text};
 ghost use Rattle.vt_picture.specs.Picture.{edges, letters_tag, letters_text, word_tag, word_text, words_text};
 ghost use Rattle.vt_picture.specs.Runs.{words};
 
-use crate::adding::{add, add_filled_with, add_number, add_numbered};
+use crate::adding::{add_filled_with, add_numbered};
 use crate::characters::add_cell;
 use crate::colours::{classes, foreground};
 use crate::rows::{CELL_HEIGHT, CELL_WIDTH};
@@ -39,7 +39,8 @@ pub(crate) fn add_letters(
     g.stays_full();
     add_letters_tag(alloc, text, state, y, x, attr)?;
     add_words(alloc, text, g, y, x, x + count)?;
-    add(alloc, text, b"</text>\n")
+    text.add(alloc, b"</text>\n")?;
+    Ok(())
 }
 
 #[tactic(auto, unfolding(crate::specs::Picture::letters_tag))]
@@ -53,12 +54,12 @@ fn add_letters_tag(
 ) -> Result<(), NoMemory>
     ensures { OnOk result (text.new.bytes ≡ text.old.bytes ++ letters_tag state.now y x attr) }
 {
-    add(alloc, text, b"<text")?;
+    text.add(alloc, b"<text")?;
     add_numbered(alloc, text, b"x", CELL_WIDTH * u16::from(x))?;
     add_numbered(alloc, text, b"y", CELL_HEIGHT * u16::from(y) + BASE_LINE)?;
     add_filled_with(alloc, text, foreground(state, attr))?;
-    add(alloc, text, classes(attr))?;
-    add(alloc, text, b">")
+    text.add(alloc, classes(attr))?;
+    text.add(alloc, b">")
 }
 
 // Adds the words of the cells from column `x` up to column `end`.
@@ -108,7 +109,7 @@ fn add_word(
     }
     add_word_tag(alloc, text, x, count)?;
     add_cells(alloc, text, g, y, x, count)?;
-    add(alloc, text, b"</tspan>")
+    text.add(alloc, b"</tspan>")
 }
 
 #[tactic(auto, unfolding(crate::specs::Picture::word_tag))]
@@ -117,10 +118,10 @@ fn add_word_tag(alloc: Global, text: &mut Bytes, x: u8, count: u8) -> Result<(),
     requires within { x + count ≤ 255 }
     ensures { OnOk result (text.new.bytes ≡ text.old.bytes ++ word_tag x count) }
 {
-    add(alloc, text, b"<tspan x='")?;
-    add_number(alloc, text, CELL_WIDTH * u16::from(x))?;
+    text.add(alloc, b"<tspan x='")?;
+    text.add_decimal(alloc, u64::from(CELL_WIDTH * u16::from(x)))?;
     add_edges(alloc, text, x + 1, x + count)?;
-    add(alloc, text, b"'>")
+    text.add(alloc, b"'>")
 }
 
 // Adds the left edges of the cells from column `x` up to column `end`.
@@ -129,8 +130,8 @@ fn add_edges(alloc: Global, text: &mut Bytes, x: u8, end: u8) -> Result<(), NoMe
     ensures { OnOk result (text.new.bytes ≡ text.old.bytes ++ edges x (end - x)) }
 {
     for column in x..end {
-        add(alloc, text, b" ")?;
-        add_number(alloc, text, CELL_WIDTH * u16::from(column))?;
+        text.add(alloc, b" ")?;
+        text.add_decimal(alloc, u64::from(CELL_WIDTH * u16::from(column)))?;
     }
     Ok(())
 }

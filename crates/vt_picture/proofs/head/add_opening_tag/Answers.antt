@@ -1,5 +1,4 @@
 use Rattle.std.proofs.Common.{◌≡◌, ◌*◌, ◌++◌, codes}
-use Rattle.std.proofs.lemmas.Result.{on_ok_weaker}
 use Rattle.vt_picture.specs.Picture.{opening_tag}
 use Rattle.vt_picture.specs.Svg.{number_attribute}
 use Rattle.vt_picture.proofs.Texts.{in_five}
@@ -8,12 +7,9 @@ use Rattle.vt_picture.proofs.head.add_opening_tag.Goals as goal
 pub returns : goal.returns
 unfolding opening_tag
 returns c =
-    let wide : c.add_numbered.new.text.bytes ≡ c.add-2.new.text.bytes ++ number_attribute (codes "width") (8 * c.args.g.now.cols) =
+    let wide : c.add_numbered.new.text.bytes ≡ c.add-2.new.self.bytes ++ number_attribute (codes "width") (8 * c.args.g.now.cols) =
     cc (c.in_ok-add_numbered.ensures) in
     let high : c.add_numbered-2.new.text.bytes
     ≡ c.add_numbered.new.text.bytes ++ number_attribute (codes "height") (15 * c.args.g.now.rows) =
     cc (c.in_ok-add_numbered-2.ensures) in
-    on_ok_weaker c.add-3.result
-    (λ (end : c.add-3.new.text.bytes ≡ c.add_numbered-2.new.text.bytes ++ codes ">\n").
-    in_five _ _ _ _ _ _ _ _ _ _ _ c.in_ok-add.ensures c.in_ok-add-2.ensures wide high end)
-    c.add-3.ensures
+    in_five _ _ _ _ _ _ _ _ _ _ _ c.in_ok-add.ensures c.in_ok-add-2.ensures wide high c.in_ok-add-3.ensures

@@ -1,5 +1,4 @@
-use Rattle.std.proofs.Common.{◌≡◌, ◌+◌, ◌++◌, List, codes, drop, take, ap, refl, ◌∙◌}
-use Rattle.std.proofs.lemmas.Result.{on_ok_weaker}
+use Rattle.std.proofs.Common.{◌≡◌, ◌+◌, ◌++◌, List, drop, take, ap, refl, ◌∙◌}
 use Rattle.vt_cells.specs.declared.cell.Cell.{Cell}
 use Rattle.vt_grid.specs.Grid.{row_at}
 use Rattle.vt_picture.specs.Picture.{letters_text, words_text}
@@ -17,7 +16,4 @@ returns c =
     ≡ c.add_letters_tag.new.text.bytes ++ words_text c.args.x (words (take c.args.count (drop c.args.x row))) =
     c.in_ok-add_words.ensures
     ∙ ap (λ (cells : List Cell). c.add_letters_tag.new.text.bytes ++ words_text c.args.x (words cells)) run in
-    on_ok_weaker c.add.result
-    (λ (end : c.add.new.text.bytes ≡ c.add_words.new.text.bytes ++ codes "</text>\n").
-    in_three _ _ _ _ _ _ _ c.in_ok-add_letters_tag.ensures middle end)
-    c.add.ensures
+    in_three _ _ _ _ _ _ _ c.in_ok-add_letters_tag.ensures middle c.in_ok-add.ensures
