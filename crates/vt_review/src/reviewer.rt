@@ -74,7 +74,7 @@ impl<F: Listener> Witness for Reviewer<'_, F> {
             after,
             entry,
         )?;
-        let _answer = self.behind.call(alloc, entry.caller, &entry.event)?;
+        let _answer = self.behind.call(alloc, entry.caller, &entry.event)?; // it is the entry's
         Ok(())
     }
 }
@@ -183,7 +183,7 @@ fn tell_untouched<F: Listener>(
     ensures { OnOk result (text.new.bytes
         ≡ text.old.bytes ++ entry_lines ears.now e before.now after.now) }
 {
-    let _ = before;
+    let _ = before; // opens the world
     after.display().stays_in_range();
     let trace = after.trace();
     tell_hops(alloc, text, ears, e, trace)?;
