@@ -20,7 +20,6 @@ use crate::termios::Termios;
 use std::alloc::Global;
 use std::marker::Model;
 use vt_base::{Bytes, NoMemory, Signal};
-use vt_chars::{ascii_cuts, byte_more};
 
 /// How many bytes may be fresh.
 const MOST_FRESH: usize = 4_095;
@@ -195,7 +194,6 @@ impl Cooked {
         if self.is_full() {
             return Given::Nothing;
         }
-        ascii_cuts();
         self.fresh.push(b);
         self.kept.drop_last();
         Given::Nothing
@@ -227,8 +225,6 @@ impl Cooked {
         if self.is_full() {
             return;
         }
-        byte_more();
-        ascii_cuts();
         let joins = self.goes_on(b);
         self.kept.put(joins, b);
         self.fresh.push(b);

@@ -2,9 +2,6 @@
 ghost use Rattle.cooked.specs.Laws.{EraseDropsLast, ListIsItsPushes, OneMore};
 ghost use Rattle.cooked.specs.Rows.{ErasesOne, ErasesWide, Interrupts, KeepsParted};
 
-use vt_cells::columns_are_few;
-use vt_chars::ascii_cuts;
-
 /// The effect of one more byte at the end of a list.
 pub fn one_more()
     ensures { OneMore }
@@ -18,9 +15,7 @@ pub fn list_is_its_pushes()
 /// An erase drops the last of the kept characters.
 pub fn erase_drops_last()
     ensures { EraseDropsLast }
-{
-    ascii_cuts();
-}
+{}
 
 /// Worked examples: lists of bytes with their lines, the bytes that are kept, and the echo.
 pub fn worked_rows()
@@ -28,6 +23,4 @@ pub fn worked_rows()
     ensures interrupt { Interrupts }
     ensures wide { ErasesWide }
     ensures parted { KeepsParted }
-{
-    columns_are_few();
-}
+{}

@@ -67,7 +67,7 @@ fn add_parts(
         → IfOk (slice_index_or parts.now i d) (λ part. part.bytes ≡ text_at world.now (i + 1)) }
     ensures { OnOk result (text.new.bytes ≡ text.old.bytes ++ consoles_text world.now 1 63) }
 {
-    let _ = world;
+    let _ = world; // opens the world
     for part in parts {
         match part {
             Ok(part) => add(alloc, text, part.as_slice())?,

@@ -107,7 +107,7 @@ impl Player {
     {
         legal_grows();
         meant_laws();
-        let _entries = self.log.entries();
+        let _entries = self.log.entries(); // it says that the entries are few
         let reply = self.world.call(alloc, p, &event)?;
         let seq = self.standing.count(p);
         self.standing.took(p, program, &reply);

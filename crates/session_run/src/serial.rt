@@ -33,7 +33,7 @@ fn play_by<H: Handler, M: Fn(HookTable) -> H>(
     ensures right { IfOk result (IsRightRun s.now) }
 {
     session_laws(s);
-    let _starts = s.config().procs.as_slice();
+    let _starts = s.config().procs.as_slice(); // it says that the processes are few
     let first = s.turns();
     let limits = s.limits();
     let hooks = hooks_by(alloc, s.programs(), make)?;

@@ -10,7 +10,7 @@ use std::alloc::Global;
 use vt_base::{CALLERS, NoMemory};
 use vt_events::{Entry, charge, same_reply};
 use vt_journal::{Full, Limits, Tail};
-use vt_world::{World, legal_grows};
+use vt_world::World;
 
 /// The number of the reason that an entry's number isn't how many calls its caller made before.
 const NOT_COUNTED: u8 = 1;
@@ -35,7 +35,6 @@ impl FreeJudge {
     pub(crate) fn open(start: World) -> FreeJudge
         ensures { IsAfter start [] result }
     {
-        legal_grows();
         FreeJudge {
             world: start,
             made: no_calls(),
@@ -52,7 +51,6 @@ impl FreeJudge {
         ensures passes { IfOk result (λ why. IfNone why ((start : WorldState) (h : List Entry)
             → IsAfter start h self.old → IsAfter start (h ++ entry.now ∷ []) self.new)) }
     {
-        legal_grows();
         let at = usize::from(entry.caller.get());
         if entry.seq != self.made[at] {
             return Ok(Some(NOT_COUNTED));

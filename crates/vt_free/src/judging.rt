@@ -6,7 +6,6 @@ ghost use Rattle.vt_free.specs.declared.free_verdict.FreeVerdict.TheVariants as 
 
 use crate::FreeVerdict;
 use crate::free_judge::FreeJudge;
-use crate::laws::one_free_verdict;
 use std::alloc::Global;
 use vt_base::NoMemory;
 use vt_events::Entry;
@@ -31,7 +30,6 @@ pub fn judge(
         → JudgesFree start limits entries.now end.now other → other ≡ v) }
     ensures legal { IfOk result (λ v. (v ≡ verdict.Legal) ↔ IsFree start limits entries.now end.now) }
 {
-    one_free_verdict();
     let mut judge = FreeJudge::open(start);
     for i in 0..entries.len() {
         if let Some(why) = judge.judge(alloc, &entries[i])? {

@@ -248,6 +248,7 @@ impl<J: Opening> Hub<J> {
         let shared = lock.close(s.place);
         shared.sound();
         let (world, log, stop) = shared.parts();
+        // They say that the log is within its limits.
         let _entries = log.entries();
         let _bytes = log.bytes();
         Run { world, log, stop }

@@ -51,7 +51,7 @@ impl<J: Opening> Shared<J> {
     {
         legal_grows();
         displays_are_lawful_from(&world);
-        let _front = world.display().get();
+        let _front = world.display().get(); // it says that the console is 1 to 63
         let state = State {
             world,
             log,
@@ -68,7 +68,7 @@ impl<J: Opening> Shared<J> {
     pub(crate) fn sound(&self)
         ensures { IsSound J.start J.limits self.now }
     {
-        let _ = &self.state.stop;
+        let _ = &self.state.stop; // opens the state
     }
 
     /// 64 times the number of entries, plus the display.
@@ -139,7 +139,7 @@ impl<J: Opening> Shared<J> {
         let state = &mut *self.state;
         let at = state.log.entries().len() as u32;
         let reply = state.world.step_with(caller, event, spare);
-        let _front = state.world.display().get();
+        let _front = state.world.display().get(); // it says that the console is 1 to 63
         let waits = state.waits.after(&state.world, caller);
         let ended = state.waits.ended(waits);
         state.waits = waits;

@@ -73,7 +73,7 @@ impl<F: Listener> Witness for Reviewer<'_, F> {
             entry,
         };
         tell_entry(alloc, &mut self.text, self.ears, change)?;
-        let _answer = self.behind.call(alloc, entry.caller, &entry.event)?;
+        let _answer = self.behind.call(alloc, entry.caller, &entry.event)?; // it is the entry's
         Ok(())
     }
 }

@@ -1,4 +1,5 @@
 use Rattle.std.proofs.Common.{◌∷◌, ◌++◌, [], refl, ap, arith}
+use Rattle.vt_cells.proofs.Stated.{columns_are_few-low, columns_are_few-worked}
 use Rattle.cooked.proofs.laws.worked_rows.Goals as goal
 use Rattle.cooked.specs.Echo.{erase_echo}
 
@@ -7,7 +8,7 @@ returns-clause-erase c =
     record {
       gives = refl;
       keeps = refl;
-      echoes = ap (λ n. 0x61 ∷ 0x62 ∷ erase_echo n ++ 0x63 ∷ 0x0D ∷ 0x0A ∷ []) (c.columns_are_few.ensures.low 0x62 (omega arith) (omega arith));
+      echoes = ap (λ n. 0x61 ∷ 0x62 ∷ erase_echo n ++ 0x63 ∷ 0x0D ∷ 0x0A ∷ []) (columns_are_few-low 0x62 (omega arith) (omega arith));
     }
 
 pub returns-clause-interrupt : goal.returns-clause-interrupt
@@ -18,7 +19,7 @@ returns-clause-wide c =
     record {
       gives = refl;
       keeps = refl;
-      echoes = ap (λ n. 0xE4 ∷ 0xB8 ∷ 0xAD ∷ erase_echo n ++ []) c.columns_are_few.ensures.worked.han;
+      echoes = ap (λ n. 0xE4 ∷ 0xB8 ∷ 0xAD ∷ erase_echo n ++ []) columns_are_few-worked.han;
     }
 
 pub returns-clause-parted : goal.returns-clause-parted
@@ -28,5 +29,5 @@ returns-clause-parted c =
       keeps = refl;
       echoes =
           ap (λ n. 0xE4 ∷ 0x61 ∷ erase_echo n ++ 0xB8 ∷ 0xAD ∷ 0x08 ∷ 0x20 ∷ 0x08 ∷ [])
-          (c.columns_are_few.ensures.low 0x61 (omega arith) (omega arith));
+          (columns_are_few-low 0x61 (omega arith) (omega arith));
     }

@@ -4,6 +4,7 @@ use Rattle.std.proofs.lemmas.Bool.{iff_false}
 use Rattle.std.proofs.lemmas.List.{take_all}
 use Rattle.std.proofs.lemmas.Option.{slice_get_read}
 use Rattle.vt_events.specs.declared.entry.Entry.{Entry}
+use Rattle.vt_free.proofs.VerdictLaws.{legal_is_free, one_verdict}
 use Rattle.vt_free.proofs.VerdictLaws.{next_take}
 use Rattle.vt_free.specs.Judging.{IsAfter}
 use Rattle.vt_free.specs.Verdicts.JudgesFree.{AtEnd, EntryFails, Right}
@@ -21,12 +22,12 @@ returns-in-Some-clause-judges c =
 
 pub returns-in-Some-clause-one : goal.returns-in-Some-clause-one
 returns-in-Some-clause-one c = λ other judges.
-    c.one_free_verdict.ensures.one c.args.start c.args.limits c.args.entries.now c.args.end.now other _ judges
+    one_verdict c.args.start c.args.limits c.args.entries.now c.args.end.now other _ judges
     (returns-in-Some-clause-judges c)
 
 pub returns-in-Some-clause-legal : goal.returns-in-Some-clause-legal
 returns-in-Some-clause-legal c =
-    c.one_free_verdict.ensures.legal c.args.start c.args.limits c.args.entries.now c.args.end.now _
+    legal_is_free c.args.start c.args.limits c.args.entries.now c.args.end.now _
     (returns-in-Some-clause-judges c)
 
 pub loop-i-preserved : goal.loop-i-preserved
@@ -49,12 +50,12 @@ returns-then-not-has_tail-clause-judges c =
 
 pub returns-then-not-has_tail-clause-one : goal.returns-then-not-has_tail-clause-one
 returns-then-not-has_tail-clause-one c = λ other judges.
-    c.one_free_verdict.ensures.one c.args.start c.args.limits c.args.entries.now c.args.end.now other _ judges
+    one_verdict c.args.start c.args.limits c.args.entries.now c.args.end.now other _ judges
     (returns-then-not-has_tail-clause-judges c)
 
 pub returns-then-not-has_tail-clause-legal : goal.returns-then-not-has_tail-clause-legal
 returns-then-not-has_tail-clause-legal c =
-    c.one_free_verdict.ensures.legal c.args.start c.args.limits c.args.entries.now c.args.end.now _
+    legal_is_free c.args.start c.args.limits c.args.entries.now c.args.end.now _
     (returns-then-not-has_tail-clause-judges c)
 
 pub returns-clause-judges : goal.returns-clause-judges
@@ -65,10 +66,10 @@ returns-clause-judges c =
 
 pub returns-clause-one : goal.returns-clause-one
 returns-clause-one c = λ other judges.
-    c.one_free_verdict.ensures.one c.args.start c.args.limits c.args.entries.now c.args.end.now other _ judges
+    one_verdict c.args.start c.args.limits c.args.entries.now c.args.end.now other _ judges
     (returns-clause-judges c)
 
 pub returns-clause-legal : goal.returns-clause-legal
 returns-clause-legal c =
-    c.one_free_verdict.ensures.legal c.args.start c.args.limits c.args.entries.now c.args.end.now _
+    legal_is_free c.args.start c.args.limits c.args.entries.now c.args.end.now _
     (returns-clause-judges c)

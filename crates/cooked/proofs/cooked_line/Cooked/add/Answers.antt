@@ -1,5 +1,6 @@
 use Rattle.std.proofs.Common.{◌≡◌, ◌≤◌, ℕ, ◌&&◌, Bool, true, List, [], ◌∷◌, ◌++◌, length, sym, ap, ◌∙◌, subst}
 use Rattle.std.proofs.lemmas.Bool.{OnTrue_at, and_parts}
+use Rattle.vt_chars.proofs.Stated.{ascii_cuts, byte_more}
 use Rattle.vt_chars.specs.Characters.{is_part}
 use Rattle.cooked.proofs.FreshLaws.{fresh_full}
 use Rattle.cooked.proofs.StandLaws.{fresh_later, part_few, put_stands}
@@ -44,7 +45,7 @@ invariant_of-self c =
     subst (λ held. Stands t c.push.new.self held c.self.inside.line) (sym c.put.ensures)
     (put_stands t c.self.inside.fresh c.push.new.self c.self.inside.kept c.self.inside.line c.args.b
     c.self.invariant lines (ap ends_line is) c.push.ensures.bytes c.push.ensures.room
-    c.byte_more.ensures c.ascii_cuts.ensures is c.goes_on-joins.result
+    byte_more ascii_cuts is c.goes_on-joins.result
     (c.goes_on-joins.ensures ∙ ap (goes_on c.args.b) (sym c.self.view_is)))
 
 pub returns : goal.returns

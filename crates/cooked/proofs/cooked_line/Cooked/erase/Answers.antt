@@ -3,6 +3,7 @@ use Rattle.std.proofs.lemmas.Bool.{OnTrue_at}
 use Rattle.cooked.proofs.FreshLaws.{fresh_full}
 use Rattle.cooked.proofs.KindLaws.{erase_canonical}
 use Rattle.cooked.proofs.StandLaws.{erase_stands, fresh_later, with_line}
+use Rattle.vt_chars.proofs.Stated.{ascii_cuts}
 use Rattle.cooked.proofs.cooked_line.Cooked.erase.Goals as goal
 use Rattle.cooked.specs.Cooked.{Stands, Typing, make_typing}
 use Rattle.cooked.specs.Fresh.{fresh}
@@ -30,7 +31,7 @@ invariant_of-self-2 c =
     let erased : Stands t c.push.new.self (but_last c.self.inside.kept) c.self.inside.line =
     erase_stands t c.self.inside.fresh c.push.new.self c.self.inside.kept c.self.inside.line c.args.b
     c.self.invariant (erase_canonical t c.args.b is) (ap ends_line is) c.push.ensures.bytes c.push.ensures.room
-    c.ascii_cuts.ensures is in
+    ascii_cuts is in
     subst (λ held. Stands t c.push.new.self held c.truncate.new.self) (sym c.drop_last.ensures)
     (with_line t c.push.new.self (but_last c.self.inside.kept) c.self.inside.line c.truncate.new.self erased
     (omega (arith, c.truncate.ensures.room, c.self.invariant.line_room)))

@@ -8,6 +8,7 @@ use Rattle.vt_free.proofs.Judged.{answered_is, taken}
 use Rattle.vt_free.specs.Judging.{IsAfter}
 use Rattle.vt_free.specs.Verdicts.{calls_before}
 use Rattle.vt_free.specs.Verdicts.FailsAt.{OtherAnswer, OtherNumber}
+use Rattle.vt_world.proofs.Stated.{legal_grows-entered}
 use Rattle.vt_free.proofs.free_judge.FreeJudge.judge.Goals as goal
 
 pub returns-then-entry-self-clause-fails : goal.returns-then-entry-self-clause-fails
@@ -61,7 +62,7 @@ returns-clause-passes c = λ start h at.
     }))
     (sym same)
     (taken start h entry c.args.self.now c.call.new.self c.in_ok-reply.reply c.saturating_add.result
-    c.saturating_add-self.result c.saturating_add-self-2.result c.legal_grows.ensures.entered at
+    c.saturating_add-self.result c.saturating_add-self-2.result legal_grows-entered at
     c.in_ok-reply.ensures.ok (c.same_reply.ensures.0 c.if-not-same_reply.false) low
     (c.if-entry-self.false ∙ ap (λ (k : ℕ). get_or made k 0) same)
     (one ∙ ap (λ (k : ℕ). get_or made k 0 + 1) same) more charged)
