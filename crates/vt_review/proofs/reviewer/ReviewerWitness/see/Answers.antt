@@ -5,8 +5,10 @@ use Rattle.vt_review.proofs.reviewer.ReviewerWitness.see.Goals as goal
 
 pub invariant_of-change : goal.invariant_of-change
 invariant_of-change g c =
-    record { left = is_left c.requires.start c.args.self.now.behind c.args.after.now c.requires.before c.args.place
-    c.args.entry.now c.requires.seen.1.behind_is c.requires.next }
+    record {
+      left = is_left c.requires.start c.args.self.now.behind c.args.after.now c.requires.before c.args.place
+          c.args.entry.now c.requires.seen.1.behind_is c.requires.next;
+    }
 
 pub returns-clause-seen : goal.returns-clause-seen
 returns-clause-seen g c = λ first start before was next. (
