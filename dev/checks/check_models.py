@@ -74,7 +74,7 @@ FUNCTIONS = [
     ("crates/turn_lock/src/door.rt", ["visit", "wait", "since", "is_due", "call"]),
     ("crates/turn_lock/src/bells.rt", ["announced", "ring", "bell"]),
     ("crates/vt_hub/src/hub.rt", ["wait_end", "turn"]),
-    ("crates/vt_hub/src/wake_ups.rt", ["prepare_wait", "wake", "ring", "wake_all", "of"]),
+    ("crates/vt_hub/src/wake_ups.rt", ["prepare_wait", "wake", "ring", "wake_all"]),
 ]
 
 
