@@ -1,4 +1,4 @@
-//! How a process calls.
+//! A process's calls on the hub: after a call that waits comes the one that asks how the wait ended.
 ghost use Rattle.std.specs.Prelude.{◌≡◌, false};
 ghost use Rattle.vt_hub.specs.Ready.{IsReady};
 ghost use Rattle.vt_world.specs.Refusals.{ends_wait};

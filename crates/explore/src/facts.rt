@@ -1,4 +1,4 @@
-//! Facts in words.
+//! Facts in words, with the callers, consoles and signals that they name.
 use crate::patterns::{answer_at, call_at};
 use crate::phrase::Phrase;
 use vt_base::{CallerNo, ConsoleNo, KEYBOARDS, PROCESSES, Signal, parse_decimal};

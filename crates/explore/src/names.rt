@@ -1,4 +1,4 @@
-//! Names that stand for several facts.
+//! Names that stand for several facts, such as a refusal, each as its conditions.
 use crate::facts::{caller_of, console_of};
 use crate::patterns::{add, call_at, error_number};
 use crate::phrase::Phrase;

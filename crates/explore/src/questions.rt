@@ -1,4 +1,4 @@
-//! Questions in words.
+//! Questions in words: the facts, names and quoted texts of each as conditions.
 use crate::ending::Failure;
 use crate::facts::{console_of, fact_at};
 use crate::names::name_at;

@@ -1,4 +1,4 @@
-//! Counts of calls.
+//! The number of calls of each caller at the start: none.
 ghost use Rattle.std.specs.Prelude.{◌≡◌, replicate};
 
 use vt_base::CALLERS;
