@@ -1,4 +1,4 @@
-//! The machine at the start.
+//! `started`: the machine of the example's hub at the start.
 ghost use Rattle.std.specs.Prelude.{◌≡◌, ℕ, false, IfOk};
 ghost use Rattle.vt_world.specs.State.{is_waiting};
 

@@ -1,4 +1,4 @@
-//! The lines of the output.
+//! The lines of the output: each process's calls, the display, and the rows of console 2.
 use itoa::Buffer;
 use std::alloc::Global;
 use vt_base::{Bytes, CallerNo, ConsoleNo, NoMemory};

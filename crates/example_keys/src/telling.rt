@@ -1,4 +1,4 @@
-//! The lines of the output.
+//! The lines of the output: what each scan byte sends, or why the keymap is refused.
 use itoa::Buffer;
 use key_machine::KeyOut;
 use key_text::KeyFault;

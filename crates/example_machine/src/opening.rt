@@ -1,4 +1,4 @@
-//! The machine at the start.
+//! `opened`: the example's machine at the start.
 use key_tables::KeyTables;
 use machine::Machine;
 use std::alloc::Global;

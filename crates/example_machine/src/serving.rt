@@ -1,4 +1,4 @@
-//! The calls of the processes.
+//! `serve_each`: the call of each line of the input, on one machine, and its journal.
 use crate::opening::opened;
 use crate::writing::Written;
 use machine::{CallError, Machine};

@@ -1,4 +1,4 @@
-//! The calls of the processes.
+//! `ask_for_each`: the calls of the server and of the one who asks, and their lines.
 use crate::calling::{asker, server};
 use crate::opening::opened;
 use crate::telling::{add, add_line};

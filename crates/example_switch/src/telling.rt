@@ -1,4 +1,4 @@
-//! The lines of the output.
+//! The lines of the output: each call with its answer.
 use itoa::Buffer;
 use std::alloc::Global;
 use vt_base::{Bytes, ConsoleNo, NoMemory};

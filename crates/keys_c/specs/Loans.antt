@@ -1,4 +1,4 @@
--- A loan that a call gives back as it was.
+-- A loan of a keyboard that a call gives back as it was.
 use Rattle.std.specs.Prelude.{◌≡◌}
 use Rattle.keys_c.specs.declared.loan.KeysLoan.{KeysLoan}
 

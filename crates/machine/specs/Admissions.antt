@@ -1,4 +1,4 @@
--- Processes that are given to programs after the start. This project's own.
+-- A process that is given to a program after the start: when it may be, and the machine after it. This project's own.
 use Rattle.std.specs.Prelude.{ℕ, ◌-◌, ◌==◌, ◌&&◌, nat_le, Bool, not, length, Result, Ok, Err, slice_index_or, slice_set, if◌then◌else◌}
 use Rattle.machine.specs.History.{Start}
 use Rattle.machine.specs.MachineState.{MachineState, made_by}

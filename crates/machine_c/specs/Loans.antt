@@ -1,4 +1,4 @@
--- A loan that a call gives back as it was.
+-- A loan of a machine that a call gives back as it was.
 use Rattle.std.specs.Prelude.{◌≡◌}
 use Rattle.machine_c.specs.declared.loan.MachineLoan.{MachineLoan}
 

@@ -1,4 +1,5 @@
-//! Laws of the definitions. They don't depend on the scanner.
+//! Laws of groups of scan bytes: a list of groups has the events of each, however its bytes are cut. They don't depend
+//! on the scanner.
 ghost use Rattle.scan_codes.specs.Laws.{AnyCut, GroupsAreRead};
 
 /// The events of a list of groups are those of each group, in order.

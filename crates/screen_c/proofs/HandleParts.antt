@@ -1,4 +1,4 @@
--- A handle by value: its pointer and its allocator, with what they own. Assumes `Logic`.
+-- A screen's handle by value: its pointer and its allocator, with what they own. Assumes `Logic`.
 use Rattle.std.proofs.Common.{◌≡◌, List, [], ◌∷◌, ◌++◌, refl, subst, lit<}
 use denote.Param.{layout}
 use denote.RattleType.{RattleType, Valss}

@@ -1,4 +1,4 @@
-//! The columns of a character.
+//! `vt_columns`: the columns of a character, for C.
 ghost use Rattle.std.specs.Prelude.{◌≡◌};
 ghost use Rattle.vt_cells.specs.Width.{columns};
 

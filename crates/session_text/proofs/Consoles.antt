@@ -1,4 +1,4 @@
--- Sets of consoles.
+-- The consoles of a set: the lowest one from a number on, and a set with one more.
 use Rattle.std.proofs.Common.{◌≡◌, ◌≢◌, ℕ, ◌+◌, ◌-◌, ◌^◌, ◌≤◌, ◌==◌, suc, max, true, false, Bool, cond, Some, None, find, sym, ap, ◌∙◌, arith}
 use Rattle.std.proofs.lemmas.Nat.Bits.{bit_at_or, bit_at-pow_other}
 use Rattle.std.specs.Int.{bit_at}

@@ -1,4 +1,4 @@
-//! TOML documents.
+//! `document`: a text as a TOML document.
 ghost use Rattle.toml.specs.View.{table_view};
 ghost use Rattle.table_fields.specs.Checked.{Gives};
 ghost use Rattle.table_fields.specs.Fields.{document_of};

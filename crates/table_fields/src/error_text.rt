@@ -1,4 +1,4 @@
-//! The texts of errors, as the program `vt` prints them on standard error.
+//! The texts of the faults of a session's tables, as the program `vt` prints them on standard error.
 ghost use Rattle.std.specs.Prelude.{Some};
 ghost use Rattle.table_fields.specs.ErrorTexts.{error_text, fault_text};
 

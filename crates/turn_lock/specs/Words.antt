@@ -1,4 +1,4 @@
--- The words of the contracts.
+-- The state of a pass in the words of the lock's contracts: whether it rests, is first, has its turn, or is joined.
 use Rattle.std.specs.Prelude.{◌≡◌, ◌==◌, ℕ, ◌⊎◌, Bool, true, false, ◌||◌}
 use Rattle.std.specs.Prelude.{List, [], ◌∷◌, ◌++◌, length, Option, Some, None}
 use mathlib.Core.Option.{some}

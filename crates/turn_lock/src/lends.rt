@@ -1,5 +1,5 @@
-//! `value` has a file of its own: its clause names the row of `Held`, which the file that declares
-//! `Held` can't import.
+//! `Held::value`: the value under the lock, to read and to write. It has a file of its own: its clause names the row of
+//! `Held`, which the file that declares `Held` can't import.
 ghost use Rattle.std.specs.Prelude.{◌≡◌, []};
 ghost use types.Logic.{sem};
 ghost use denote.Follow.{follows};

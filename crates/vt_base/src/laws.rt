@@ -1,4 +1,4 @@
-//! Laws of the definitions.
+//! Laws of sets of signals, and the limits in the code against those of the definitions.
 ghost use Rattle.std.specs.Prelude.{◌≡◌};
 ghost use Rattle.vt_base.specs.Limits.{callers, consoles, descriptors, keyboards, piece_bytes, processes, signals};
 ghost use Rattle.vt_base.specs.Signals.{WithAddsOne};

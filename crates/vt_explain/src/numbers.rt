@@ -1,4 +1,4 @@
-//! Numbers that are words.
+//! Numbers of a certificate: words that are a number, a console's, a caller's, a signal's.
 ghost use Rattle.std.specs.Prelude.{◌≤◌, IfSome};
 ghost use Rattle.vt_explain.specs.CertText.{IsConsole};
 ghost use Rattle.vt_journal.specs.Readers.{Takes};

@@ -1,4 +1,4 @@
-//! The texts of errors, as the program `vt` prints them on standard error.
+//! The texts of a journal's faults, as the program `vt` prints them on standard error.
 ghost use Rattle.std.specs.Prelude.{Some};
 ghost use Rattle.vt_journal.specs.ErrorText.{error_text, fault_text};
 

@@ -1,4 +1,4 @@
-//! Numbers that are words.
+//! Numbers of a journal's calls and answers: words that are one number, or some of given ranges.
 ghost use Rattle.std.specs.Prelude.{◌≡◌, ◌+◌, ◌<◌, ◌≤◌, ◌^◌, [], ◌∷◌, length, map, decimal, option_map, IfSome};
 ghost use Rattle.std.specs.List.{All};
 ghost use Rattle.vt_journal.specs.Replies.{Within};

@@ -1,4 +1,4 @@
--- Whole characters at the start of a text.
+-- Printable characters that are read at once show what their codes show one by one.
 use Rattle.std.proofs.Common.{◌≡◌, ◌<◌, true, ℕ, List, [], ◌∷◌, length, refl, sym, ap, ◌∙◌, arith}
 use Rattle.vt_cells.specs.Width.{columns}
 use Rattle.vt_screen.proofs.Printed.{print_mode}

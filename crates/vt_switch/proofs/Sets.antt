@@ -1,4 +1,4 @@
--- Sets of consoles.
+-- A console of a set is at its place in the list of all consoles.
 use Rattle.std.proofs.Common.{◌≡◌, ℕ, ◌<◌, true, arith, get_or, Some, None, ap, ◌∙◌}
 use Rattle.std.proofs.lemmas.List.FromFn.{get_or-map-range_with_len}
 use Rattle.std.specs.Prelude.{is_some, if◌then◌else◌}

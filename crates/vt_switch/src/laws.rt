@@ -1,4 +1,4 @@
-//! Laws of the switch.
+//! Laws of the display: each of its hops was asked for and allowed, and only a hop changes the console in front.
 ghost use Rattle.vt_switch.specs.Acts.{OnlyHopsSwitch};
 ghost use Rattle.vt_switch.specs.Law.{DisplayLaw, HopsAreDue, OwnersStayLive, TargetLaw};
 ghost use Rattle.vt_switch.specs.News.{OneHopIsTold, OneNewsIsTold};

@@ -1,4 +1,5 @@
-//! Laws of the definitions. They don't depend on the reader.
+//! Laws of units and of runs over a text: its cuts, its pieces, and what is read of it at once. They don't depend on
+//! the reader.
 ghost use Rattle.vt_units.specs.Cutting.{CutsAreRuns, TextsAreCut};
 ghost use Rattle.vt_units.specs.Laws.{AnyCut, CharactersEnd, ControlsAreUnits, DropsExactly, PiecesAct, PiecesResume, PrintablesAreCharacters, SequencesAreUnits, SequencesEnd, StringsEnd, TextsSpellCharacters};
 ghost use Rattle.vt_units.specs.Units.{UnfinishedIsBefore};
