@@ -52,7 +52,7 @@ uint32_t vt_version(void);
 /* What a call returns. */
 enum vt_code {
     VT_OK = 0,
-    VT_MADE = 1,          /* the handle has something already, or the process is in use */
+    VT_MADE = 1,          /* the handle has something already, or the process can't be given to this program */
     VT_RANGE = 2,         /* a number is out of its range */
     VT_NO_MEMORY = 3,
     VT_NOTHING = 4,       /* the handle has nothing: it was never made, or it was freed */

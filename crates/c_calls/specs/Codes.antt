@@ -5,7 +5,7 @@ use Rattle.std.specs.Prelude.{ℕ}
 abbrev pub OK : ℕ
 OK = 0
 
--- VT_MADE: the handle has something already, or the process is in use
+-- VT_MADE: the handle has something already, or the process can't be given to this program
 abbrev pub MADE : ℕ
 MADE = 1
 

@@ -22,11 +22,11 @@ pub record LacksMemory (old new : List ℕ) (old_count count code : ℕ) : Type 
   pub size : count ≡ old_count
   pub places : new ≡ old
 
--- one of the first two
+-- the text is handed over whole, or there is no room
 abbrev pub HandsOverFreely : List ℕ → List ℕ → List ℕ → ℕ → ℕ → Type 0
 HandsOverFreely text old new count code = IsWhole text old new count code ⊎ LacksRoom text old new count code
 
--- one of the three
+-- the same, or memory ran out
 abbrev pub HandsOver : List ℕ → List ℕ → List ℕ → ℕ → ℕ → ℕ → Type 0
 HandsOver text old new old_count count code =
     IsWhole text old new count code ⊎ (LacksRoom text old new count code ⊎ LacksMemory old new old_count count code)

@@ -3,7 +3,7 @@
 /// The call succeeded.
 pub const OK: u8 = 0;
 
-/// The handle has something already, or the process is in use.
+/// The handle has something already, or the process can't be given to this program.
 pub const MADE: u8 = 1;
 
 /// A number is out of its range.

@@ -5,7 +5,7 @@ ghost use Rattle.c_calls.specs.Text.{Hands, HandsOver, HandsOverFreely, room_of}
 
 use crate::code;
 
-/// Writes the text's length, and the text, if there is room for it.
+/// Writes the text's length, and the text too if there is room for it. Returns OK, or NO_ROOM.
 pub fn hand_over(text: &[u8], room: &mut [u8], count: &mut usize) -> u8
     ensures free { HandsOverFreely text.now room.old room.new count.new result }
     ensures text { HandsOver text.now room.old room.new count.old count.new result }

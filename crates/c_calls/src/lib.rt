@@ -4,10 +4,12 @@
 
 pub mod code;
 mod handing_over;
+mod laws;
 mod taking;
 mod vt_fault;
 mod vt_modes;
 
 pub use handing_over::hand_over;
+pub use laws::codes_are_kept;
 pub use vt_fault::VtFault;
 pub use vt_modes::VtModes;

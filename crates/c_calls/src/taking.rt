@@ -1,4 +1,6 @@
-//! What a call does with its loan or its handle. Each macro is the whole body of an export.
+//! `read!`, `change!`: what a call does with its loan or its handle. Each is the whole body of an export, whose clauses
+//! refuse a macro that keeps the loan or loses what the handle owned. `$answer` has no `return` and no `?`: it would
+//! leave before the value is put back.
 
 /// Reads what is lent: the answer, or NOTHING if nothing is lent. The loan is put back.
 #[macro_export]

@@ -3,7 +3,7 @@ ghost use Rattle.c_cells.specs.Cells.{IsPlain, c_cell, cell_of};
 
 use vt_cells::Cell;
 
-/// `struct vt_cell`.
+/// A cell as C gets it and passes it: `struct vt_cell`.
 #[repr(C)]
 #[derive(Clone, Copy, Debug, PartialEq)]
 pub struct VtCell {

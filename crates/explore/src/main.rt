@@ -1,4 +1,4 @@
-//! A program that answers questions about every order of a session's calls (docs/reference/explore.md).
+//! Answers questions about every order of a session's calls (docs/reference/explore.md).
 //!
 //!     explore [--json] [--states N] [QUESTION ..] < SESSION
 #![tactic(auto)]

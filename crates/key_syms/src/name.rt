@@ -1,4 +1,4 @@
-//! The name of an action.
+//! `name_of`: finds the name of an action.
 ghost use Rattle.std.specs.Prelude.{◌≡◌, ◌<◌, ◌≤◌, nat_lt, length, slice_index, IsTrue};
 ghost use Rattle.std.specs.List.{list_all};
 ghost use Rattle.key_syms.specs.Act.{act};

@@ -1,4 +1,4 @@
-//! The action that a name stands for.
+//! Finds the action that a name stands for.
 ghost use Rattle.std.specs.Prelude.{◌≡◌, ℕ, ◌<◌, nat_lt, min, Option, IsTrue, IfSome, slice_index};
 ghost use Rattle.std.specs.Option.{option_and_then, option_map};
 ghost use Rattle.key_syms.specs.Act.{act, is_character};

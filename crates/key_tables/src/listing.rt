@@ -1,4 +1,4 @@
-//! The listing of key tables.
+//! The listing of key tables, as `vt keys` prints it.
 ghost use Rattle.std.specs.Prelude.{◌≡◌, ◌++◌, ◌≤◌, [], cond, length, OnOk};
 ghost use Rattle.std.specs.List.{flat_map};
 ghost use Rattle.key_tables.specs.Listing.{entry_text, func_text, listing_of, map_text, maps_text, number_text, numbers_line, pair_text, texts_from};

@@ -1,4 +1,4 @@
-//! The two parts of a list.
+//! The first items of a list, and the items after them.
 ghost use Rattle.std.specs.Prelude.{◌≡◌, ◌≤◌, length, take, drop};
 
 /// The first n items.

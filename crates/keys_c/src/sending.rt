@@ -1,4 +1,5 @@
-//! That a keyboard's handle and loan may go to another thread. Without the first function's bound nothing would prove it.
+//! That a keyboard's handle and loan may go to another thread. Without the first function's bound nothing would prove
+//! it.
 use crate::handle::KeysHandle;
 use crate::loan::KeysLoan;
 

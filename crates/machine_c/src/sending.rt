@@ -1,4 +1,5 @@
-//! That a machine's handle and loan may go to another thread. Without the first function's bound nothing would prove it.
+//! That a machine's handle and loan may go to another thread. Without the first function's bound nothing would prove
+//! it.
 use crate::handle::MachineHandle;
 use crate::loan::MachineLoan;
 

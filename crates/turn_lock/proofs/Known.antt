@@ -1,4 +1,4 @@
--- Part D: the words that passes have read.
+-- Each step keeps part D of the rule: the words that passes have read stay those of prefixes.
 use Rattle.std.proofs.Common.{◌≡◌, ℕ, ⊎_elim, List, [], ◌∷◌, ◌++◌, set, sym, subst, arith}
 use Rattle.std.proofs.Common.{Option, Some}
 use mathlib.Core.Option.{some, some-ne-none}

@@ -1,4 +1,4 @@
--- A caller at the door, for the contracts.
+-- A caller at the door, for the contracts: it waits with its number, or it came in.
 use Rattle.std.specs.Prelude.{◌≡◌, []}
 use Rattle.turn_lock.specs.declared.at_door.AtDoor.TheVariants as at_door
 use Rattle.turn_lock.specs.declared.visitor.Visitor.{Visitor}

@@ -8,7 +8,8 @@ use vt_base::NoMemory;
 /// How many bells the tickets of the lock have, and how many the numbers of its door.
 pub(crate) const BELLS: usize = 128;
 
-/// That the bell of a number was rung. [`Bells::ring`] alone makes one. Contracts see the number.
+/// That [`Bells::ring`] was called for a number; it alone makes one. Contracts see the number. No clause states that a
+/// sleeper wakes.
 #[derive(Drop)]
 pub struct Rung {
     number: u64,
@@ -20,6 +21,15 @@ impl Model for Rung {
     ghost Value = { ℕ };
 
     ghost view = { λ r. r.number };
+}
+
+impl Rung {
+    /// The number whose bell was rung.
+    pub fn number(&self) -> u64
+        ensures { result ≡ self.now }
+    {
+        self.number
+    }
 }
 
 /// `N` bells: a caller that waits for a number sleeps at the number's bell. Numbers that are `N` apart share a bell.
@@ -42,7 +52,7 @@ impl<const N: usize> Bells<N> {
         Ok(Bells { each })
     }
 
-    /// A wait at the bell of this number, which ends at the next ring.
+    /// Announces a wait at the bell of this number: the wait of the key ends at the next ring. No clause states this.
     pub fn announced(&self, number: u64) -> Key<'_> {
         self.bell(number).prepare_wait()
     }

@@ -1,4 +1,5 @@
-/// An entry of the history. The lock knows all of it except `what`. No value of this type is made.
+/// An entry of the lock's history: its caller, its place among that caller's entries, and the display after it. The
+/// lock knows all of it except `what`. No value of this type is made.
 pub struct Entry<W> {
     /// The number of the caller that published it.
     pub by: u32,

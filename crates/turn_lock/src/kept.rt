@@ -1,6 +1,6 @@
 ghost use Rattle.std.specs.Prelude.{◌≡◌, ℕ, ◌<◌, ◌≤◌, ◌^◌, List, Option, length};
 
-/// The value under the lock. It shows a history: a list of entries.
+/// The trait of a value under the lock: its history, a list of entries, its seal, and a fact of every history.
 pub trait Kept {
     ghost use Rattle.turn_lock.specs.declared.entry.Entry.{Entry};
     ghost use Rattle.turn_lock.specs.declared.seal.Seal.{Seal};

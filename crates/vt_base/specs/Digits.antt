@@ -1,4 +1,4 @@
--- Hexadecimal digits.
+-- The value of a hexadecimal digit, and the two digits of a byte.
 use Rattle.std.specs.Prelude.{ℕ, ◌+◌, ◌-◌, ◌/◌, ◌%◌, Option, Some, None, ◌&&◌, nat_le, nat_lt, List, [], ◌∷◌, if◌then◌else◌}
 
 -- the value of a hexadecimal digit with its letters in lower case

@@ -1,4 +1,4 @@
--- Numbers of a range.
+-- A number if it is in a range, and None otherwise.
 use Rattle.std.specs.Prelude.{ℕ, ◌||◌, nat_lt, Option, Some, None, if◌then◌else◌}
 
 -- the number, if it is from low to high

@@ -1,4 +1,4 @@
-//! Texts that grow: bytes and numbers, with room for them.
+//! Additions to a `Bytes` that make their own room: bytes, decimal numbers, hexadecimal bytes.
 ghost use Rattle.std.specs.Prelude.{decimal};
 ghost use Rattle.std.specs.List.{flat_map};
 ghost use Rattle.vt_base.specs.Bytes.{Adds};

@@ -1,4 +1,4 @@
-//! Decimal numbers in words.
+//! Reads a word as the one decimal spelling of a number.
 ghost use Rattle.std.specs.Prelude.{◌≡◌, ◌≤◌, decimal, IfSome, IfNone};
 ghost use Rattle.std.specs.Bool.{OnFalse, OnTrue};
 ghost use Rattle.vt_base.specs.Decimal.{IsNoNumber, IsPlain, IsNoNumberTo};

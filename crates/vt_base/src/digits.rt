@@ -1,4 +1,4 @@
-//! Hexadecimal digits.
+//! Reads and writes one hexadecimal digit.
 ghost use Rattle.std.specs.Prelude.{◌≡◌, ◌<◌, IfSome};
 ghost use Rattle.vt_base.specs.Digits.{hex_digit, hex_value, lower_hex_value};
 

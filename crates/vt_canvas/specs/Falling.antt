@@ -1,4 +1,4 @@
--- The row that falls out at the top of a screen. A line feed in the last row of a region that begins with the
+-- Which units move the first row out at the top of a screen, and that row. A line feed in the last row of a region that begins with the
 -- screen's first row moves that row out. A line deleted, an erase or another size of the screen isn't that.
 use Rattle.std.specs.Prelude.{ℕ, Bool, false, not, ◌==◌, ◌&&◌, ◌||◌, min, List, [], ◌∷◌, if◌then◌else◌}
 use Rattle.vt_canvas.specs.Printing.{lacks_room}

@@ -1,4 +1,4 @@
--- How a character is written.
+-- How a character is written: its colours and styles, as definitions see them.
 use Rattle.std.specs.Prelude.{ℕ, Bool, true, false}
 use Rattle.vt_cells.specs.declared.intensity.Intensity.{Intensity}
 use Rattle.vt_cells.specs.declared.intensity.Intensity.TheVariants.{Dim, Normal, Bold}

@@ -1,4 +1,4 @@
-//! The attribute byte of a cell.
+//! The attribute byte of a character and of a blank, and the byte with its colours exchanged.
 ghost use Rattle.std.specs.Prelude.{◌≡◌, ◌<◌, if◌then◌else◌};
 ghost use Rattle.vt_cells.specs.AttrByte.{attr_byte, byte_of, erase_byte, with_bit_flipped, foreground, with_colours_swapped, vga};
 

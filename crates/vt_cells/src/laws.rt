@@ -1,4 +1,4 @@
-//! Laws of columns.
+//! The law that a character takes at most two columns, and which ones take one.
 ghost use Rattle.vt_cells.specs.Width.{AtMostTwo, LowTakeOne, PlainTakeOne, PrivateTakeOne, WorkedColumns};
 
 /// Bounds of the columns of a code, and the columns of some characters.

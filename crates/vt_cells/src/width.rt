@@ -1,4 +1,4 @@
-//! The columns of a character.
+//! `columns`: how many columns a code point takes, by the kit's table.
 ghost use Rattle.std.specs.Prelude.{◌≡◌, ◌≤◌};
 ghost use Rattle.vt_cells.specs.Width.{columns};
 

@@ -1,4 +1,4 @@
--- The bytes that the reader keeps. No public clause names this.
+-- The bytes of an unfinished character that the reader keeps. No public clause names this.
 use Rattle.std.specs.Prelude.{◌≡◌, ℕ, List, [], ◌∷◌}
 use Rattle.vt_chars.specs.declared.decoded.Decoded.{Decoded}
 use Rattle.vt_chars.specs.declared.decoded.Decoded.TheVariants.{Character, Unfinished, Malformed}

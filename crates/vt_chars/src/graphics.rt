@@ -1,4 +1,4 @@
-//! The VT100 graphics.
+//! `graphic`: the characters of the VT100 graphics table.
 ghost use Rattle.std.specs.Prelude.{◌≡◌};
 ghost use Rattle.vt_chars.specs.CharMap.{graphic_of};
 

@@ -1,4 +1,4 @@
-//! The characters of a row.
+//! `row_characters`: a row's characters in UTF-8, in place.
 ghost use Rattle.std.specs.Prelude.{◌≡◌, ◌+◌, ◌<◌, ◌≤◌, ◌++◌, length};
 ghost use Rattle.std.specs.List.{flat_map};
 ghost use Rattle.vt_dump.specs.Rows.{cell_text};

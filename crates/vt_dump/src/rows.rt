@@ -1,4 +1,4 @@
-//! The rows of a screen as text.
+//! The rows of a screen as one text with bars and line ends.
 ghost use Rattle.std.specs.Prelude.{◌≡◌, ◌+◌, ◌*◌, ◌<◌, ◌≤◌, ◌++◌, IfOk, OnErr, OnOk};
 ghost use Rattle.vt_dump.specs.Rows.{row_text, rows_text};
 ghost use Rattle.vt_grid.specs.Grid.{row_at};

@@ -1,4 +1,4 @@
-//! The text of a row.
+//! Appends one row between bars to a text.
 ghost use Rattle.std.specs.Prelude.{◌≡◌, ◌+◌, ◌*◌, ◌<◌, ◌≤◌, ◌∷◌, ◌++◌, [], true};
 ghost use Rattle.vt_base.specs.Bytes.{Grew};
 ghost use Rattle.vt_dump.specs.Rows.{cell_text, is_printable_ascii, is_shown, row_text};

@@ -57,7 +57,7 @@ AreFound questions s found =
     (i : ℕ) (wants : Wants) (order : List ℕ) → slice_get questions i ≡ Some wants
     → slice_get found i ≡ Some (Some order) → IsFound wants s order
 
--- where none was found, there is none
+-- a question without an order has none in any history
 abbrev pub AreNever : List Wants → SessionView → List (Option (List ℕ)) → Type 0
 AreNever questions s found =
     (i : ℕ) (wants : Wants) → slice_get questions i ≡ Some wants → slice_get found i ≡ Some None

@@ -19,7 +19,7 @@ pub struct Outcome {
     /// For each question an order whose last turn makes a call that it asks for, if one was found.
     pub found: Orders,
     pub end: End,
-    /// How many orders were kept: each leads to a state that was told apart from the others.
+    /// How many orders the search keeps. No clause states that they lead to different states.
     pub states: usize,
     /// How many calls were made from these states.
     pub calls: u64,

@@ -1,4 +1,4 @@
--- Laws of every grid.
+-- Laws of runs of cells in every grid: cell by cell, and in two stretches.
 use Rattle.std.specs.Prelude.{◌≡◌, ℕ, ◌+◌, ◌<◌, ◌≤◌, List, [], ◌∷◌, ◌++◌, length}
 use Rattle.vt_grid.specs.Grid.{IsFull, GridView, row_at, with_cell, with_run}
 use Rattle.vt_grid.specs.Halves.{with_cells_at, split_wide_at}

@@ -177,8 +177,8 @@ impl<J: Opening> Hub<J> {
     }
 
     // One turn of the caller, which enters the call unless its ticket is open, and wakes exactly the processes whose
-    // tickets this call ended; all processes if the hub has stopped. An entered call takes its event, and of its memory the parts that it uses. Both are
-    // lent, so that they are not moved through each function.
+    // tickets this call ended; all processes if the hub has stopped. An entered call takes its event, and of its memory
+    // the parts that it uses. Both are lent, so that they are not moved through each function.
     fn turn<R: Wait>(&self, rt: &R, p: &mut Pass<J>, event: &mut Event, spare: &mut Spare) -> Turned
         requires own { p.old.hub ≡ self.now }
         requires fits { Fits J.start.rows J.start.cols event.old spare.old }

@@ -16,6 +16,7 @@ mod steward;
 mod turned;
 mod waiters;
 mod wake_ups;
+mod woken;
 
 pub use answer::Answer;
 pub use hub::Hub;

@@ -1,4 +1,4 @@
-use crate::waiters::Waiters;
+use crate::woken::Woken;
 use vt_events::Reply;
 use vt_journal::Full;
 
@@ -10,14 +10,14 @@ pub(crate) enum Turned {
         /// Its place in the journal, counted from 0.
         at: u32,
         reply: Reply,
-        /// The processes that were woken after it.
-        woken: Waiters,
+        /// The processes whose bells were rung after it.
+        woken: Woken,
     },
     /// The hub has stopped, by this call or by an earlier one.
     Full {
         full: Full,
-        /// The processes that were woken: all.
-        woken: Waiters,
+        /// The processes whose bells were rung: all.
+        woken: Woken,
     },
     /// The caller's ticket is open.
     Waits,

@@ -2,6 +2,7 @@ ghost use Rattle.std.specs.Prelude.{◌≡◌, ◌==◌, ◌%◌, ◌||◌, ℕ,
 ghost use Rattle.vt_hub.specs.Waiters.{AreAll, IsProcess, has_process};
 
 use crate::waiters::{Ended, Waiters};
+use crate::woken::Woken;
 use crossbeam_utils::sync::Key;
 use std::alloc::Global;
 use turn_lock::Bells;
@@ -25,12 +26,12 @@ impl WakeUps {
         self.bells.announced(u64::from(caller.get()))
     }
 
-    /// Wakes the callers whose tickets were ended, and returns those that [`WakeUps::ring`] woke.
-    pub(crate) fn wake(&self, ended: Ended) -> Waiters
+    /// Wakes the callers whose tickets were ended, and returns those whose bells were rung.
+    pub(crate) fn wake(&self, ended: Ended) -> Woken
         ensures { (p : ℕ) → IsProcess p → has_process result.bits p ≡ has_process ended.set.bits p }
     {
         let callers = ended.set();
-        let mut woken = Waiters::none();
+        let mut woken = Woken::none();
         if callers.is_empty() {
             return woken;
         }
@@ -40,9 +41,8 @@ impl WakeUps {
         woken
     }
 
-    // Wakes the caller if it is among these, and counts it to those that were woken. No clause states that its
-    // wake-up is rung.
-    fn ring(&self, callers: Waiters, woken: Waiters, caller: CallerNo) -> Waiters
+    // Wakes the caller if it is among these.
+    fn ring(&self, callers: Waiters, woken: Woken, caller: CallerNo) -> Woken
         ensures { (p : ℕ) → has_process result.bits p
             ≡ (if has_process callers.bits caller then p % 64 == caller % 64 || has_process woken.bits p
             else has_process woken.bits p) }
@@ -50,18 +50,18 @@ impl WakeUps {
         if !callers.has(caller) {
             return woken;
         }
-        let _ = self.bells.ring(u64::from(caller.get()));
-        woken.with(caller)
+        let rung = self.bells.ring(u64::from(caller.get()));
+        woken.and(rung)
     }
 
     /// Wakes every process. A keyboard never waits.
-    pub(crate) fn wake_all(&self) -> Waiters
+    pub(crate) fn wake_all(&self) -> Woken
         ensures { AreAll result.bits }
     {
-        let mut woken = Waiters::none();
+        let mut woken = Woken::none();
         for caller in CallerNo::processes() {
-            let _ = self.bells.ring(u64::from(caller.get()));
-            woken = woken.with(caller);
+            let rung = self.bells.ring(u64::from(caller.get()));
+            woken = woken.and(rung);
         }
         woken
     }

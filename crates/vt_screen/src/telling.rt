@@ -1,4 +1,4 @@
-//! A text of any length with a listener.
+//! A text of any length with a listener, which is called for each side effect.
 ghost use Rattle.std.specs.Prelude.{◌≡◌, ◌<◌, ◌≤◌, length, take};
 ghost use Rattle.vt_screen.specs.Hearing.{HearsAll};
 ghost use Rattle.vt_screen.specs.Run.{after, outs_of_option, outs_of_run};

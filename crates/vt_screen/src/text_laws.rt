@@ -1,4 +1,4 @@
-//! A law of printed text.
+//! The law that printable text fills the start screen row by row.
 ghost use Rattle.vt_screen.specs.TextRows.{TextFillsRows, TextScrolls};
 
 use vt_cells::columns_are_few;

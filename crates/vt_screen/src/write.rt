@@ -1,4 +1,4 @@
-//! A text of any length.
+//! `Emu::write`, `Emu::write_until`: a text of any length, whole or up to its first side effect.
 ghost use Rattle.std.specs.Prelude.{◌≡◌, ◌≤◌, None, length, take};
 ghost use Rattle.vt_screen.specs.Run.{IsQuietBefore, after, outs_of_option, outs_of_run};
 

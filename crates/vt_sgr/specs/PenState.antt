@@ -1,4 +1,4 @@
--- The state of a pen.
+-- A pen as definitions see it, and its change by each kind of parameter.
 use Rattle.std.specs.Prelude.{ℕ, Bool, false}
 use Rattle.vt_cells.specs.Rendition.{Rendition, Tints}
 use Rattle.vt_cells.specs.declared.intensity.Intensity.{Intensity}

@@ -1,4 +1,4 @@
-//! A byte after ESC ].
+//! The parser after ESC ], up to the end of a command or of a palette entry.
 ghost use Rattle.std.specs.Prelude.{◌≡◌};
 ghost use Rattle.vt_units.specs.ParserState.{Inside, IsOutcomeOf, Stands};
 

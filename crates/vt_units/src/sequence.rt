@@ -1,4 +1,4 @@
-//! A byte inside a sequence that isn't a string.
+//! The parser after ESC or CSI: a byte inside a sequence that isn't a string.
 ghost use Rattle.std.specs.Prelude.{◌≡◌, ◌≤◌, ◌<◌, ◌==◌, ◌&&◌, ◌∷◌, length};
 ghost use Rattle.vt_units.specs.Bytes.{is_mid, opens_string};
 ghost use Rattle.vt_units.specs.Reading.{is_empty};

@@ -1,6 +1,6 @@
 use crate::parser_state::ParserState;
 
-/// The effect of a byte on the pending bytes.
+/// The effect of a byte on the pending bytes: they stay, grow or are cleared.
 #[derive(Debug, Clone, Copy, PartialEq, Eq)]
 pub(crate) enum Step {
     /// They stay.

@@ -1,4 +1,4 @@
-//! A byte of a string.
+//! The parser in a string, and after an ESC in it.
 ghost use Rattle.std.specs.Prelude.{◌≡◌};
 ghost use Rattle.vt_units.specs.ParserState.{Inside, Stands};
 

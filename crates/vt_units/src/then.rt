@@ -1,6 +1,6 @@
 use crate::Unit;
 
-/// The result of a byte.
+/// What a byte came to: a unit, a control inside a sequence, nothing yet, or a sequence that is dropped.
 #[derive(Debug, Drop)]
 pub enum Then {
     /// It ends a unit.

@@ -1,4 +1,4 @@
-//! The row that falls out at the top of the screen.
+//! Whether a unit moves the first row out at the top of the screen.
 ghost use Rattle.std.specs.Prelude.{◌≡◌, ◌≤◌, min};
 ghost use Rattle.vt_canvas.specs.Falling.{feeds_line, goes_to_next_row, is_at_end, loses_row};
 ghost use Rattle.vt_canvas.specs.Printing.{lacks_room};

@@ -1,4 +1,4 @@
-//! A text of any length, and the rows that fall out at the top of the screen.
+//! `Emu::write_until_row`: a text up to its first side effect or the first row that falls out at the top of the screen.
 ghost use Rattle.std.specs.Prelude.{◌≡◌, ◌<◌, ◌≤◌, [], ◌∷◌, None, true, length, get_or, take};
 ghost use Rattle.vt_screen.specs.Falling.{IsLevelBefore, rows_of_run};
 ghost use Rattle.vt_screen.specs.Run.{HasRun, IsQuietBefore, after, outs_of_option, outs_of_run, run_from, with_outs};

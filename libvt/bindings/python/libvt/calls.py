@@ -442,7 +442,7 @@ class _Object:
         if code == _FULL:
             raise Full("the journal has no room for the call")
         if code == _MADE:
-            raise InUse("the process is in use")
+            raise InUse("the process can't be given to this program")
         raise Error(f"vt_{self._kind}_{name}: code {code}")
 
     def _text(self, name: str, *arguments: Any, room: int, what: str = "a number is out of its range") -> bytes:

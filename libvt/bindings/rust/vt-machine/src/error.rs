@@ -30,7 +30,7 @@ impl fmt::Display for Error {
                 write!(f, "fault {} of the keymap at line {}, column {}", fault.kind, fault.line, fault.column)
             }
             Error::Full => f.write_str("the journal has no room for the call"),
-            Error::InUse => f.write_str("the process is in use"),
+            Error::InUse => f.write_str("the process can't be given to this program"),
             Error::Other(code) => write!(f, "code {code} of libvt"),
         }
     }

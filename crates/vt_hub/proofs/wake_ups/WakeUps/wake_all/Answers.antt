@@ -16,9 +16,9 @@ loop-caller-preserved c =
     let at : get_or c.processes-caller-items.result i q ≡ i + 1 =
     ap (λ (items : List ℕ). get_or items i q) c.processes-caller-items.ensures
     ∙ range_at 1 64 i q c.loop-caller-test.true ∙ omega arith in
-    look_on (λ p. true) (λ p. true) 0 i c.loop-caller-test.true old (has_process c.with-woken.result.bits)
+    look_on (λ p. true) (λ p. true) 0 i c.loop-caller-test.true old (has_process c.and-woken.result.bits)
     c.loop-caller.invariant
-    (λ p. c.with-woken.ensures p ∙ ap (λ (n : ℕ). p % 64 == n % 64 || old p) at)
+    (λ p. c.and-woken.ensures p ∙ ap (λ (n : ℕ). p % 64 == n % 64 || old p) at)
 
 or-true : (b : Bool) → (b || true) ≡ true
 or-true true = refl
