@@ -2,12 +2,12 @@ ghost use Rattle.std.specs.Prelude.{◌≡◌};
 
 /// The first fault of a keymap text: its line and column, both from 1, and its kind (docs/reference/keys.md).
 #[repr(C)]
-#[derive(Clone, Copy, Debug, PartialEq, Eq)]
+#[derive(Clone, Copy, PartialEq, Eq)]
 pub struct VtFault {
     pub line: u32,
     pub column: u32,
     pub kind: u32,
-    /// 0.
+    /// Always 0: a later version may name it.
     pub spare: u32,
 }
 

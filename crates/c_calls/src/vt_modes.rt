@@ -1,6 +1,6 @@
 /// `struct vt_modes`: the modes of a screen that keys depend on (console_codes(4)), each 1 or 0.
 #[repr(C)]
-#[derive(Clone, Copy, Debug, PartialEq, Eq)]
+#[derive(Clone, Copy, PartialEq, Eq)]
 pub struct VtModes {
     /// DECCKM: cursor keys send their application form.
     pub cursor_keys: u8,
@@ -10,6 +10,6 @@ pub struct VtModes {
     pub repeat: u8,
     /// LNM: a line feed goes to the first column.
     pub newline_mode: u8,
-    /// 0.
+    /// Always 0: a later version may name it.
     pub spare: [u8; 4],
 }

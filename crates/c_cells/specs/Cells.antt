@@ -11,5 +11,5 @@ abbrev pub cell_of : VtCell → Cell
 cell_of c = record { code = c.code; attr = c.attr }
 
 -- no spare byte is set
-abbrev pub IsPlain : VtCell → Type 0
-IsPlain c = c.spare ≡ replicate 3 0
+abbrev pub HasNoSpare : VtCell → Type 0
+HasNoSpare c = c.spare ≡ replicate 3 0

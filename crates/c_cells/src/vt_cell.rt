@@ -1,17 +1,17 @@
 ghost use Rattle.std.specs.Prelude.{◌≡◌, ◌↔◌, IsTrue};
-ghost use Rattle.c_cells.specs.Cells.{IsPlain, c_cell, cell_of};
+ghost use Rattle.c_cells.specs.Cells.{HasNoSpare, c_cell, cell_of};
 
 use vt_cells::Cell;
 
 /// A cell as C gets it and passes it: `struct vt_cell`.
 #[repr(C)]
-#[derive(Clone, Copy, Debug, PartialEq)]
+#[derive(Clone, Copy, PartialEq)]
 pub struct VtCell {
     /// The code point, or that of a right half.
     pub code: u32,
     /// The attribute byte of a VGA text cell.
     pub attr: u8,
-    /// 0.
+    /// Always 0: a later version may name it.
     pub spare: [u8; 3],
 }
 
@@ -27,7 +27,7 @@ impl VtCell {
         }
     }
 
-    /// The cell that C passes so.
+    /// The cell that this struct stands for, whatever its spare bytes are.
     pub fn cell(&self) -> Cell
         ensures { result ≡ cell_of self.now }
     {
@@ -39,7 +39,7 @@ impl VtCell {
 
     /// Whether no spare byte is set.
     pub fn is_plain(&self) -> bool
-        ensures { IsTrue result ↔ IsPlain self.now }
+        ensures { IsTrue result ↔ HasNoSpare self.now }
     {
         self.spare == [0; 3]
     }

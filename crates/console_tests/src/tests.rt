@@ -1,5 +1,6 @@
-//! A machine that a session opens, and whether its calls have their answers. Rows are texts and numbers alone, helpers have no clauses, and no `?` stands
-//! after a machine or a session is made, since each would have to drop it: so a test is proved in seconds.
+//! A machine that a session opens, and whether its calls have their answers. Rows are texts and numbers alone, helpers
+//! have no clauses, and no `?` stands after a machine or a session is made, since each would have to drop it: so a test
+//! is proved in seconds.
 mod deaths;
 mod marks;
 mod row;

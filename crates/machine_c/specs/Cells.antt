@@ -1,7 +1,7 @@
 -- The cells that a terminal shows, as C passes them.
 use Rattle.std.specs.Prelude.{◌≡◌, ℕ, ◌*◌, List, length, map, take, drop}
 use Rattle.std.specs.List.{All, range_with_len}
-use Rattle.c_cells.specs.Cells.{IsPlain, cell_of}
+use Rattle.c_cells.specs.Cells.{HasNoSpare, cell_of}
 use Rattle.c_cells.specs.declared.vt_cell.VtCell.{VtCell}
 use Rattle.vt_cells.specs.declared.cell.Cell.{Cell}
 use Rattle.vt_grid.specs.Grid.{GridView, grid_view_of}
@@ -18,4 +18,4 @@ grid_of rows cols cells = grid_view_of rows cols (map (row_of cols cells) (range
 pub record AreCellsOf (grid : GridView) (cells : List VtCell) (cols : ℕ) : Type 0 where
   pub columns : cols ≡ grid.cols
   pub count : length cells ≡ grid.rows * grid.cols
-  pub spare : All IsPlain cells
+  pub spare : All HasNoSpare cells

@@ -19,7 +19,8 @@ Refuses old new old_count count refusal code = (code ≡ refusal) × (new ≡ ol
 abbrev pub IsShort : Screen → ℕ → ℕ → Type 0
 IsShort s count code = (code ≡ OK) ⊎ (code ≡ NO_ROOM) → count ≤ redraw_most s.grid.rows s.grid.cols
 
--- a screen that no text draws is refused; the text of any other is handed over, and draws it on every screen of its size
+-- a screen that no text draws is refused; the text of any other is handed over, and draws it on every screen of its
+-- size
 pub record Draws (s : Screen) (old new : List ℕ) (old_count count code : ℕ) : Type 0 where
   pub undrawable : is_redrawable s ≡ false → Refuses old new old_count count NOT_DRAWABLE code
   pub text : IsTrue (is_redrawable s) → HandsOver (redraw_of s) old new old_count count code

@@ -8,7 +8,7 @@ ghost use Rattle.machine_c.specs.Started.{IsSeat, rights_of};
 use crate::handle::MachineHandle;
 use crate::numbers::caller_of;
 use crate::vt_seat::VtSeat;
-use c_calls::code;
+use c_calls::{change, code};
 use machine::{AdmitError, Machine};
 use std::alloc::Global;
 use vt_procs::ProcStart;
@@ -28,15 +28,7 @@ pub extern "C" fn vt_machine_admit(
         (result ≡ code_of answer)
         × (h.new.value ≡ Some (after_admission answer process (rights_of seat.now) m))) }
 {
-    match h.take(alloc) {
-        None => code::NOTHING,
-        Some(machine) => {
-            let mut machine = machine;
-            let answer = admit(&mut machine, process, seat);
-            h.put(machine);
-            answer
-        }
-    }
+    change!(h, alloc, machine => admit(&mut machine, process, seat))
 }
 
 fn admit(machine: &mut Machine, process: u32, seat: &VtSeat) -> u8

@@ -1,7 +1,7 @@
 //! The cells that a terminal shows, as C passes them.
 ghost use Rattle.std.specs.Prelude.{◌≡◌, ◌<◌, ◌*◌, false, length, map, IfOk, IsTrue};
 ghost use Rattle.std.specs.List.{All};
-ghost use Rattle.c_cells.specs.Cells.{IsPlain, cell_of};
+ghost use Rattle.c_cells.specs.Cells.{HasNoSpare, cell_of};
 ghost use Rattle.machine_c.specs.Cells.{AreCellsOf, grid_of};
 ghost use Rattle.vt_grid.specs.Grid.{with_row};
 
@@ -23,8 +23,8 @@ pub(crate) fn are_cells_of(grid: &Grid, cells: &[VtCell], cols: u32) -> bool
 
 // Whether no spare byte is set.
 fn are_plain(cells: &[VtCell]) -> bool
-    ensures yes { IsTrue result → All IsPlain cells.now }
-    ensures no { result ≡ false → ¬ All IsPlain cells.now }
+    ensures yes { IsTrue result → All HasNoSpare cells.now }
+    ensures no { result ≡ false → ¬ All HasNoSpare cells.now }
 {
     for i in 0..cells.len() {
         if !cells[i].is_plain() {

@@ -1,4 +1,5 @@
--- The laws of scan groups: a list of bytes is groups and one rest, wherever it is cut. Each law is about the definitions alone.
+-- The laws of scan groups: a list of bytes is groups and one rest, wherever it is cut. Each law is about the
+-- definitions alone.
 use Rattle.std.specs.Prelude.{◌≡◌, ℕ, List, [], ◌∷◌, ◌++◌, IsTrue, option_to_list}
 use Rattle.std.specs.List.{flat_map, list_all}
 use Rattle.scan_codes.specs.Groups.{is_group, named_by}

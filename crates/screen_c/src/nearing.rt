@@ -60,8 +60,8 @@ pub extern "C" fn vt_lent_screen_redraw_near(
     answer
 }
 
-/// The text that draws the nearest drawable screen on one that shows the marked cells, or on any of its size if no cells
-/// of its size are marked.
+/// The text that draws the nearest drawable screen on one that shows the marked cells, or on any of its size if no
+/// cells of its size are marked.
 #[unsafe(no_mangle)]
 pub extern "C" fn vt_lent_screen_redraw_changes_near(
     loan: &mut ScreenLoan,

@@ -1,4 +1,5 @@
-//! A ticket lock with one history: a caller that enters sees all entries that were published, and adds one.
+//! A ticket lock with one history: a caller that enters sees all entries that were published, and adds one. `Bells` is
+//! public for `vt_hub`, whose callers sleep in the same way.
 #![tactic(auto)]
 
 mod at_door;

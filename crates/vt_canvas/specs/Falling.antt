@@ -1,5 +1,6 @@
--- Which units move the first row out at the top of a screen, and that row. A line feed in the last row of a region that begins with the
--- screen's first row moves that row out. A line deleted, an erase or another size of the screen isn't that.
+-- Which units move the first row out at the top of a screen, and that row. A line feed in the last row of a region that
+-- begins with the screen's first row moves that row out. A line deleted, an erase or another size of the screen isn't
+-- that.
 use Rattle.std.specs.Prelude.{ℕ, Bool, false, not, ◌==◌, ◌&&◌, ◌||◌, min, List, [], ◌∷◌, if◌then◌else◌}
 use Rattle.vt_canvas.specs.Printing.{lacks_room}
 use Rattle.vt_canvas.specs.Screen.{Screen}

@@ -100,8 +100,8 @@ pub record WakesEnded (start : WorldState) (w : PassView) (set : ℕ) : Type 0 w
   pub seen : w.seen ≡ before ++ entry ∷ []
   pub ended : AreEnded (replay start before) (replay start w.seen) set
 
--- the result of one turn of the pass v with the call e: an answer with those that were woken, which are all processes if
--- the hub has stopped; or none while its caller's ticket is open
+-- the result of one turn of the pass v with the call e: an answer with those that were woken, which are all processes
+-- if the hub has stopped; or none while its caller's ticket is open
 abbrev pub Turns : WorldState → Limits → Event → PassView → PassView → Turned → Type 0
 Turns start most e v w (turned.Done place reply woken) =
     Called start most e v w place reply × WakesEnded start w woken.bits

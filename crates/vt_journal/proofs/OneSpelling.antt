@@ -1,4 +1,5 @@
--- Values that have one spelling as words: a line of them spells one value, and a text begins with the lines of one list.
+-- Values that have one spelling as words: a line of them spells one value, and a text begins with the lines of one
+-- list.
 use Rattle.std.proofs.Common.{◌≡◌, ◌≢◌, ℕ, ◌≤◌, true, suc, Option, Some, None, List, [], ◌∷◌, ◌++◌, length, map, refl, sym, ap, ◌∙◌, append_assoc, arith}
 use Rattle.std.specs.List.{All, flat_map}
 use Rattle.std.specs.Prelude.{IfSome}

@@ -6,7 +6,8 @@ use Rattle.vt_redraw.specs.Redraw.{IsStored, changes_of, redraw_of}
 use Rattle.vt_canvas.specs.Screen.{Screen}
 
 -- so many bytes for a screen of these rows and columns. A cell takes at most 18: SGR with 14 and a character with 4. A
--- row begins with a motion of 8. The row of a pending wrap is drawn once more, and a tab stop takes 8. All else takes 377
+-- row begins with a motion of 8. The row of a pending wrap is drawn once more, and a tab stop takes 8. All else takes
+-- 377
 abbrev pub redraw_most : ℕ → ℕ → ℕ
 redraw_most rows cols = rows * (18 * cols + 8) + 26 * cols + 377
 

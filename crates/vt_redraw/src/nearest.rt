@@ -22,8 +22,8 @@ use vt_screen::{BLANK, Emu};
 const REPLACEMENT: u32 = 0xFFFD;
 
 /// The nearest screen that a text can draw, with no text pending: cells that no text draws have U+FFFD, the colours of
-/// the pens aren't bright, the saved cursor is on the screen, a region of one row is the whole screen, origin mode is off
-/// if the cursor is outside the region, and the high bit is changed in the null mapping alone. A screen that is
+/// the pens aren't bright, the saved cursor is on the screen, a region of one row is the whole screen, origin mode is
+/// off if the cursor is outside the region, and the high bit is changed in the null mapping alone. A screen that is
 /// [`redrawable`](crate::redrawable) stays. This project's own.
 pub fn near(alloc: Global, emu: &Emu) -> Result<Emu, NoMemory>
     ensures screen { IfOk result (λ shown. shown ≡ make_reached (near emu.now.state) (fresh start_mode)) }

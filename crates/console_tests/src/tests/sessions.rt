@@ -1,4 +1,5 @@
-//! The fields of an ordinary session after it is read: its size, its limits and its programs. Expected values come from docs/reference/sessions.md.
+//! The fields of an ordinary session after it is read: its size, its limits and its programs. Expected values come from
+//! docs/reference/sessions.md.
 use session_text::{Session, read};
 use std::process::Abort;
 use std::test::Fail;

@@ -127,8 +127,8 @@ fn check_filled(by: &impl Abort, alloc: Global, case: &Filled) -> Result<(), Fai
     fill_and_check(by, alloc, &mut world, case)
 }
 
-// How many letters are typed into the filled queue, and how many bytes it holds and how many pieces it dropped after one
-// report more.
+// How many letters are typed into the filled queue, and how many bytes it holds and how many pieces it dropped after
+// one report more.
 type Filled = (u32, usize, u32);
 
 const FILLED: &[Filled] = &[(4, 4_096, 0), (5, 4_091, 1)];

@@ -9,9 +9,9 @@ use vt_canvas::SideEffect;
 use vt_units::{Then, Unit, controls_are_units, sequences_are_units};
 
 impl Emu {
-    /// Does what [`Emu::write_until`] does, and ends also after the first byte by which a row falls out at the
-    /// top of the screen. `rows` then is the rows that fell out by it: two at most, and none if it ended for
-    /// another reason, except that the same byte may have a side effect.
+    /// Does what [`Emu::write_until`] does, and also ends after the first byte by which a row falls out at the
+    /// top of the screen. `rows` then has the rows that this byte moved out, one or two; otherwise it is empty.
+    /// That byte may have a side effect too.
     pub fn write_until_row(
         &mut self,
         b: &[u8],
