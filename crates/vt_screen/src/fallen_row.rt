@@ -62,10 +62,5 @@ fn copy_first_row(cells: &mut [Cell; MOST_CELLS], grid: &Grid) -> usize
     ensures few { result ≤ 255 }
 {
     grid.stays_full();
-    let mut len = 0;
-    for cell in grid.row(0) {
-        cells[len] = cell;
-        len += 1;
-    }
-    len
+    grid.row(0).write_to(cells)
 }
