@@ -10,6 +10,7 @@ mod Hearing
 mod Levels
 mod Printed
 mod Quiet
+mod RowLengths
 mod Sequences
 mod Shown
 mod TextSteps
