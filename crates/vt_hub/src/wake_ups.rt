@@ -50,7 +50,7 @@ impl WakeUps {
         if !callers.has(caller) {
             return woken;
         }
-        let _ = self.bells.ring(u64::from(caller.get()));
+        self.bells.ring(u64::from(caller.get()));
         woken.with(caller)
     }
 
@@ -60,7 +60,7 @@ impl WakeUps {
     {
         let mut woken = Waiters::none();
         for caller in CallerNo::processes() {
-            let _ = self.bells.ring(u64::from(caller.get()));
+            self.bells.ring(u64::from(caller.get()));
             woken = woken.with(caller);
         }
         woken
