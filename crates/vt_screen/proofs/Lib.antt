@@ -12,5 +12,6 @@ mod Printed
 mod Quiet
 mod Sequences
 mod Shown
+pub mod Stated
 mod TextSteps
 pub mod for_laws
