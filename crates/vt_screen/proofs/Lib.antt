@@ -13,5 +13,6 @@ mod Quiet
 mod RowLengths
 mod Sequences
 mod Shown
+pub mod Stated
 mod TextSteps
 pub mod for_laws
