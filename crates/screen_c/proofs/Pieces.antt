@@ -6,7 +6,7 @@ use Rattle.std.proofs.Math.Seq.{take-add, take-append_seam, drop-append-add, set
 use Rattle.std.proofs.lemmas.Bool.{cases_lt}
 use Rattle.std.proofs.lemmas.List.{drop-drop, length-append, length-map, map-append, take_all}
 use Rattle.vt_cells.specs.declared.cell.Cell.{Cell}
-use Rattle.vt_screen.specs.Falling.{AnyRowCut, IsLevelBefore, rows_of_run}
+use Rattle.vt_screen.specs.Falling.{AnyRowCut, LosesNoRowBefore, rows_of_run}
 use Rattle.vt_screen.specs.Run.{AnyCut, IsQuietBefore, after, outs_of_option, outs_of_run}
 use Rattle.vt_canvas.specs.Screen.{Screen}
 use Rattle.vt_canvas.specs.declared.out.Out.{Out}
@@ -106,16 +106,16 @@ rows_more cut start before at n text done =
 pub rows_room_more : AnyRowCut → (start before : Reached Screen) (at n most : ℕ) (text : List ℕ)
     → before ≡ after start (take at text) → length (rows_of_run start (take at text)) + 2 ≤ most
     → ((k : ℕ) → k < at → length (rows_of_run start (take k text)) + 2 ≤ most)
-    → IsLevelBefore n before (take (length text - at) (drop at text))
+    → LosesNoRowBefore n before (take (length text - at) (drop at text))
     → (k : ℕ) → k < at + n → length (rows_of_run start (take k text)) + 2 ≤ most
-rows_room_more cut start before at n most text done room first level k less = ⊎_elim
+rows_room_more cut start before at n most text done room first no_loss k less = ⊎_elim
     (λ (early : k < at). first k early)
     (λ late.
     let j : ℕ = k - at in
     let place : at + j ≡ k = omega (arith, late) in
     let same : rows_of_run start (take at text) ≡ rows_of_run start (take k text) =
     sym (append-nil (rows_of_run start (take at text)))
-    ∙ ap (λ (more : List (List Cell)). rows_of_run start (take at text) ++ more) (sym (level j (omega (arith, late, less))))
+    ∙ ap (λ (more : List (List Cell)). rows_of_run start (take at text) ++ more) (sym (no_loss j (omega (arith, late, less))))
     ∙ rows_more cut start before at j text done
     ∙ ap (λ (i : ℕ). rows_of_run start (take i text)) place in
     omega (arith, room, ap length same))

@@ -7,7 +7,7 @@ use Rattle.vt_canvas.specs.Effect.{control, effect}
 use Rattle.vt_canvas.specs.Falling.{fallen}
 use Rattle.vt_canvas.specs.Screen.{Screen, mode_of}
 use Rattle.vt_cells.specs.declared.cell.Cell.{Cell}
-use Rattle.vt_screen.specs.Falling.{AnyRowCut, IsLevelBefore, ScreenAndRows, row_effects, rows_of_run, then_fallen, with_rows}
+use Rattle.vt_screen.specs.Falling.{AnyRowCut, LosesNoRowBefore, ScreenAndRows, row_effects, rows_of_run, then_fallen, with_rows}
 use Rattle.vt_screen.specs.Run.{ScreenAndOuts, after, screen_effects, then_done, with_outs}
 use Rattle.vt_units.proofs.Runs.{any_cut}
 use Rattle.vt_units.specs.Answer.{answer, rest_after}
@@ -122,12 +122,12 @@ row_cuts m a b =
     ∙ ap (run row_effects b) (rows_end m a)
     ∙ rows-from (rows_of_run m a) (after m a) b)
 
-pub level_none : (old : Reached Screen) (text : List ℕ) → IsLevelBefore 0 old text
-level_none old text k less = absurd (omega (arith, less))
+pub none_lost_none : (old : Reached Screen) (text : List ℕ) → LosesNoRowBefore 0 old text
+none_lost_none old text k less = absurd (omega (arith, less))
 
-pub level_one : (old : Reached Screen) (text : List ℕ) → IsLevelBefore 1 old text
-level_one old text zero less = refl
-level_one old text (suc k) less = absurd (omega (arith, less))
+pub none_lost_one : (old : Reached Screen) (text : List ℕ) → LosesNoRowBefore 1 old text
+none_lost_one old text zero less = refl
+none_lost_one old text (suc k) less = absurd (omega (arith, less))
 
 left-empty : (a b : List (List Cell)) → a ++ b ≡ [] → a ≡ []
 left-empty [] b is = refl
@@ -143,8 +143,8 @@ front_of (b ∷ text) (suc k) (suc n) less =
     let p = front_of text k n (omega (arith, less)) in (p.0, ap (λ (xs : List ℕ). b ∷ xs) p.1)
 
 -- if no row falls out by so many bytes, none does by the first of them
-pub level_all : (old : Reached Screen) (text : List ℕ) (n : ℕ) → rows_of_run old (take n text) ≡ [] → IsLevelBefore n old text
-level_all old text n none k less =
+pub none_lost_all : (old : Reached Screen) (text : List ℕ) (n : ℕ) → rows_of_run old (take n text) ≡ [] → LosesNoRowBefore n old text
+none_lost_all old text n none k less =
     let p = front_of text k n (omega (arith, less)) in
     left-empty (rows_of_run old (take k text)) (rows_of_run (after old (take k text)) p.0)
     (sym (row_cuts old (take k text) p.0) ∙ ap (rows_of_run old) (sym p.1) ∙ none)
@@ -158,10 +158,10 @@ rows_on text at n start before done =
     ∙ sym (row_cuts start (take at text) (take n (drop at text)))
     ∙ ap (rows_of_run start) (sym (take-add at n text))
 
-pub level_on : (text : List ℕ) (at n : ℕ) (start before : Reached Screen)
+pub none_lost_on : (text : List ℕ) (at n : ℕ) (start before : Reached Screen)
     → before ≡ after start (take at text) → rows_of_run start (take at text) ≡ []
-    → IsLevelBefore at start text → IsLevelBefore n before (drop at text) → IsLevelBefore (at + n) start text
-level_on text at n start before done none first next k less = ⊎_elim
+    → LosesNoRowBefore at start text → LosesNoRowBefore n before (drop at text) → LosesNoRowBefore (at + n) start text
+none_lost_on text at n start before done none first next k less = ⊎_elim
     (λ (early : k < at). first k early)
     (λ late.
     let j : ℕ = k - at in

@@ -7,7 +7,7 @@ mod Falling
 mod Feeds
 mod Fronts
 mod Hearing
-mod Levels
+mod Losses
 mod Printed
 mod Quiet
 mod RowLengths

@@ -36,8 +36,8 @@ abbrev pub rows_of_run : Reached Screen → List ℕ → List (List Cell)
 rows_of_run m bytes = (run row_effects bytes (with_rows [] m)).state.rows
 
 -- no row falls out by the first bytes of the text, if they are fewer than so many
-abbrev pub IsLevelBefore : ℕ → Reached Screen → List ℕ → Type 0
-IsLevelBefore count old text = (k : ℕ) → k < count → rows_of_run old (take k text) ≡ []
+abbrev pub LosesNoRowBefore : ℕ → Reached Screen → List ℕ → Type 0
+LosesNoRowBefore count old text = (k : ℕ) → k < count → rows_of_run old (take k text) ≡ []
 
 -- each row has so many cells
 abbrev pub AreWide : ℕ → List (List Cell) → Type 0

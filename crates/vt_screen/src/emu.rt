@@ -247,7 +247,7 @@ impl Emu {
     #[tactic(auto, using(crate::proofs::Quiet::quiet_none))]
     fn print_characters(&mut self, b: &[u8]) -> usize
         ensures ran { HasRun self.old b.now result self.new None }
-        ensures level { length b.now ≤ room self.old.state → rows_of_run self.old (take result b.now) ≡ [] }
+        ensures no_loss { length b.now ≤ room self.old.state → rows_of_run self.old (take result b.now) ≡ [] }
     {
         let mut codes = Codes::new();
         let count = self
@@ -264,7 +264,7 @@ impl Emu {
     #[inline(always)]
     fn print_run(&mut self, b: &[u8]) -> usize
         ensures ran { HasRun self.old b.now result self.new None }
-        ensures level { 0 < room self.old.state → rows_of_run self.old (take result b.now) ≡ [] }
+        ensures no_loss { 0 < room self.old.state → rows_of_run self.old (take result b.now) ≡ [] }
     {
         let room = self.canvas.room();
         if room == 0 {

@@ -1,6 +1,6 @@
 //! `Emu::write_until_row`: a text up to its first side effect or the first row that falls out at the top of the screen.
 ghost use Rattle.std.specs.Prelude.{◌≡◌, ◌<◌, ◌≤◌, [], ◌∷◌, None, true, length, get_or, take};
-ghost use Rattle.vt_screen.specs.Falling.{AreWide, IsLevelBefore, rows_of_run};
+ghost use Rattle.vt_screen.specs.Falling.{AreWide, LosesNoRowBefore, rows_of_run};
 ghost use Rattle.vt_screen.specs.Run.{HasRun, IsQuietBefore, after, outs_of_option, outs_of_run, run_from, with_outs};
 
 use super::Emu;
@@ -23,7 +23,7 @@ impl Emu {
         ensures effect { outs_of_option effect.new ≡ outs_of_run self.old (take result b.now) }
         ensures rows { rows.new ≡ rows_of_run self.old (take result b.now) }
         ensures first { IsQuietBefore result self.old b.now }
-        ensures level { IsLevelBefore result self.old b.now }
+        ensures no_loss { LosesNoRowBefore result self.old b.now }
         ensures all { effect.new ≡ None → rows.new ≡ [] → result ≡ length b.now }
         ensures wide { AreWide self.old.state.grid.cols rows.new }
         ensures cols { self.new.state.grid.cols ≡ self.old.state.grid.cols }
@@ -51,10 +51,10 @@ impl Emu {
         ensures some { 0 < result }
         ensures ran { HasRun self.old b.now result self.new said.new }
         ensures rows { rows.new ≡ rows_of_run self.old (take result b.now) }
-        ensures level { IsLevelBefore result self.old b.now }
+        ensures no_loss { LosesNoRowBefore result self.old b.now }
         ensures wide { AreWide self.old.state.grid.cols rows.new }
     {
-        let count = self.take_level(b, said);
+        let count = self.take_without_loss(b, said);
         if count > 0 {
             return count;
         }
@@ -65,13 +65,13 @@ impl Emu {
     // Runs the start of the text, if it is one of those by which no row falls out: characters that end in the
     // cursor's row, or a sequence. Returns the number of its bytes.
     #[inline(always)]
-    fn take_level(&mut self, b: &[u8], said: &mut SideEffect) -> usize
+    fn take_without_loss(&mut self, b: &[u8], said: &mut SideEffect) -> usize
         requires { 0 < length b.now }
         ensures ran { HasRun self.old b.now result self.new said.new }
-        ensures level { rows_of_run self.old (take result b.now) ≡ [] }
+        ensures no_loss { rows_of_run self.old (take result b.now) ≡ [] }
     {
         if b[0] == 0x1B {
-            return self.take_level_sequence(b, said);
+            return self.take_sequence_without_loss(b, said);
         }
         said.clear();
         let room = self.canvas.room();
@@ -88,9 +88,9 @@ impl Emu {
     // Runs the sequence that the text begins with, if it is read at once and no row falls out by it: a control
     // sequence, or any one above the last row. Returns the number of its bytes.
     #[inline(always)]
-    fn take_level_sequence(&mut self, b: &[u8], said: &mut SideEffect) -> usize
+    fn take_sequence_without_loss(&mut self, b: &[u8], said: &mut SideEffect) -> usize
         ensures ran { HasRun self.old b.now result self.new said.new }
-        ensures level { rows_of_run self.old (take result b.now) ≡ [] }
+        ensures no_loss { rows_of_run self.old (take result b.now) ≡ [] }
     {
         if begins_control(b) || !self.canvas.is_at_end() {
             return self.take_any_sequence(b, said);

@@ -84,7 +84,7 @@ loop-n-preserved c =
       room =
           rows_room_more any_row_cut c.args.emu.now c.loop-n.emu at m c.args.most text c.loop-n.invariant.screen
           (omega (arith, c.if-left-ge2.true, c.loop-n.invariant.rows)) c.loop-n.invariant.room
-          c.write_until_row-at.ensures.level;
+          c.write_until_row-at.ensures.no_loss;
       rows =
           omega (
             arith,

@@ -3,7 +3,7 @@ use Rattle.std.proofs.lemmas.Bool.{cond-false}
 use Rattle.std.proofs.lemmas.Bool.Decides.{nat_tests}
 use Rattle.std.proofs.lemmas.List.{length-take-le}
 use Rattle.vt_cells.proofs.Stated.{columns_are_few-low, columns_are_few-most}
-use Rattle.vt_screen.proofs.Levels.{characters_level, columns_of_all, room_fits, texts_columns}
+use Rattle.vt_screen.proofs.Losses.{characters_lose_none, columns_of_all, room_fits, texts_columns}
 use Rattle.vt_screen.proofs.Quiet.{quiet_run}
 use Rattle.vt_screen.specs.Falling.{rows_of_run}
 use Rattle.vt_screen.proofs.Shown.{codes_run}
@@ -39,8 +39,8 @@ returns-then-count-gt0-clause-ran c =
     ∙ (λ i. with_outs [] (make_reached (sym shown i) (sym left i))) in
     (c.take_characters-count.ensures.bound, ran, quiet_run c.args.self.now text count _ ran)
 
-pub returns-then-count-gt0-clause-level : goal.returns-then-count-gt0-clause-level
-returns-then-count-gt0-clause-level c short =
+pub returns-then-count-gt0-clause-no_loss : goal.returns-then-count-gt0-clause-no_loss
+returns-then-count-gt0-clause-no_loss c short =
     let text : List ℕ = c.args.b.now in
     let count : ℕ = c.take_characters-count.result in
     let s : Screen = c.self.inside.canvas in
@@ -53,5 +53,5 @@ returns-then-count-gt0-clause-level c short =
     let few : columns_of_all codes ≤ room s =
     omega (arith, columns, length-take-le count text c.take_characters-count.ensures.bound, c.take_characters-count.ensures.bound, here) in
     ap (λ (m : Reached Screen). rows_of_run m (take count text)) (sym c.self.view_is)
-    ∙ characters_level printables_are_characters most (take count text) codes s c.self.inside.pending
+    ∙ characters_lose_none printables_are_characters most (take count text) codes s c.self.inside.pending
     c.mode.result c.mode.ensures c.take_characters-count.ensures.texts begun.0 begun.1 (room_fits (columns_of_all codes) s few)

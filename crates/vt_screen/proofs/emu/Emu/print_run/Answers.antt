@@ -2,7 +2,7 @@ use Rattle.std.proofs.Common.{◌&&◌, arith, take}
 use Rattle.vt_cells.proofs.Stated.{columns_are_few-low, columns_are_few-most}
 use Rattle.vt_screen.proofs.Printed.{short_front_runs}
 use Rattle.vt_screen.proofs.Fronts.{front_cells_of_characters}
-use Rattle.vt_screen.proofs.Levels.{front_level}
+use Rattle.vt_screen.proofs.Losses.{front_lose_none}
 use Rattle.vt_units.proofs.Stated.{printables_are_characters}
 use Rattle.vt_units.specs.Bytes.{decodes}
 use Rattle.vt_units.specs.Reading.{is_empty}
@@ -20,9 +20,9 @@ print_bytes-requires-clause-narrow c =
     front_cells_of_characters columns_are_few-low (is_empty c.self.inside.pending.text && decodes c.mode.result)
     (take c.min.result c.args.b.now) c.take_printable-count.result c.take_printable-count.ensures.count
 
-pub returns-clause-level : goal.returns-clause-level
-returns-clause-level c some =
-    front_level printables_are_characters columns_are_few-low columns_are_few-most c.args.b.now
+pub returns-clause-no_loss : goal.returns-clause-no_loss
+returns-clause-no_loss c some =
+    front_lose_none printables_are_characters columns_are_few-low columns_are_few-most c.args.b.now
     c.min.result c.take_printable-count.result c.args.self.now c.self.inside.canvas c.self.inside.pending c.mode.result
     c.self.view_is c.mode.ensures c.take_printable-count.ensures.count c.take_printable-count.ensures.bound
     (λ more. (

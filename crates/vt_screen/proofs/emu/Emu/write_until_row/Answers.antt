@@ -2,11 +2,11 @@ use Rattle.std.proofs.Common.{◌≡◌, ◌==◌, ◌+◌, ◌++◌, ℕ, List,
 use Rattle.std.proofs.lemmas.List.{take_rest}
 use Rattle.vt_canvas.specs.declared.out.Out.{Out}
 use Rattle.vt_cells.specs.declared.cell.Cell.{Cell}
-use Rattle.vt_screen.proofs.Falling.{level_on, rows_on}
+use Rattle.vt_screen.proofs.Falling.{none_lost_on, rows_on}
 use Rattle.vt_screen.proofs.Feeds.{runs_on}
 use Rattle.vt_screen.proofs.Quiet.{quiet_on}
 use Rattle.vt_screen.proofs.RowLengths.{cols_stay}
-use Rattle.vt_screen.specs.Falling.{AreWide, IsLevelBefore, rows_of_run}
+use Rattle.vt_screen.specs.Falling.{AreWide, LosesNoRowBefore, rows_of_run}
 use Rattle.vt_screen.specs.Run.{IsQuietBefore, outs_of_option}
 use Rattle.vt_canvas.specs.Screen.{Screen}
 use Rattle.vt_units.specs.Run.{Reached}
@@ -40,10 +40,10 @@ loop-at-preserved c =
       effect =
           ap (λ (outs : List Out). outs ++ outs_of_option c.take_prefix_by_rows-at.new.said) (sym nothing ∙ c.loop-at.invariant.effect)
           ∙ next.1;
-      level =
-          level_on text at n c.args.self.now c.loop-at.self c.loop-at.invariant.done
-          (sym c.loop-at.invariant.rows ∙ dry) c.loop-at.invariant.level
-          (subst (IsLevelBefore n c.loop-at.self) (take_rest text at) c.take_prefix_by_rows-at.ensures.level);
+      no_loss =
+          none_lost_on text at n c.args.self.now c.loop-at.self c.loop-at.invariant.done
+          (sym c.loop-at.invariant.rows ∙ dry) c.loop-at.invariant.no_loss
+          (subst (LosesNoRowBefore n c.loop-at.self) (take_rest text at) c.take_prefix_by_rows-at.ensures.no_loss);
       rows =
           c.take_prefix_by_rows-at.ensures.rows
           ∙ ap (λ (bytes : List ℕ). rows_of_run c.loop-at.self (take n bytes)) (take_rest text at)

@@ -52,10 +52,10 @@ sequence_rows law text old s rest m one view mode found =
     (come_run row_effects one.unit m (take one.count text) (bare s) rest (sym mode) comes.comes)
 
 -- a control sequence feeds no line
-numbers_level : (private : Bool) (before : ℕ) (numbers text : List ℕ) (one : Sequence) (s : Screen)
+numbers_lose_none : (private : Bool) (before : ℕ) (numbers text : List ℕ) (one : Sequence) (s : Screen)
     → numbers_end private before numbers text ≡ Some one → feeds_line one.unit s ≡ false
-numbers_level private before numbers [] one s found = absurd (let e : ⊥ = cc in e)
-numbers_level private before numbers (last ∷ more) one s found = by (ends_control last) refl found
+numbers_lose_none private before numbers [] one s found = absurd (let e : ⊥ = cc in e)
+numbers_lose_none private before numbers (last ∷ more) one s found = by (ends_control last) refl found
   where
     unit : Sequence
     unit = record { unit = Csi private (params_of numbers) last; count = before + length numbers + 1 }
@@ -64,32 +64,32 @@ numbers_level private before numbers (last ∷ more) one s found = by (ends_cont
     by true ends is = let same : unit ≡ one = cc in ap (λ (u : Sequence). feeds_line u.unit s) (sym same)
     by false ends is = absurd (let e : ⊥ = cc in e)
 
-control_level : (text : List ℕ) (one : Sequence) (s : Screen) → control_ahead text ≡ Some one → feeds_line one.unit s ≡ false
-control_level [] one s found = absurd (let e : ⊥ = cc in e)
-control_level (b ∷ more) one s found = by (b == 0x3F) found
+control_lose_none : (text : List ℕ) (one : Sequence) (s : Screen) → control_ahead text ≡ Some one → feeds_line one.unit s ≡ false
+control_lose_none [] one s found = absurd (let e : ⊥ = cc in e)
+control_lose_none (b ∷ more) one s found = by (b == 0x3F) found
   where
     by : (test : Bool) → cond test (numbers_ahead true 3 more) (numbers_ahead false 2 (b ∷ more)) ≡ Some one
         → feeds_line one.unit s ≡ false
-    by true is = numbers_level true 3 (longest_prefix is_parameter more) (after_prefix is_parameter more) one s is
+    by true is = numbers_lose_none true 3 (longest_prefix is_parameter more) (after_prefix is_parameter more) one s is
     by false is =
-        numbers_level false 2 (longest_prefix is_parameter (b ∷ more)) (after_prefix is_parameter (b ∷ more)) one s is
+        numbers_lose_none false 2 (longest_prefix is_parameter (b ∷ more)) (after_prefix is_parameter (b ∷ more)) one s is
 
-opened_level : (text : List ℕ) (one : Sequence) (s : Screen) → get_or text 1 0 ≡ 0x5B → sequence_ahead text ≡ Some one
+opened_lose_none : (text : List ℕ) (one : Sequence) (s : Screen) → get_or text 1 0 ≡ 0x5B → sequence_ahead text ≡ Some one
     → feeds_line one.unit s ≡ false
-opened_level [] one s second found = absurd (let e : ⊥ = cc in e)
-opened_level (esc ∷ []) one s second found = absurd (let e : ⊥ = cc in e)
-opened_level (esc ∷ b ∷ more) one s second found = by (esc == 0x1B) found
+opened_lose_none [] one s second found = absurd (let e : ⊥ = cc in e)
+opened_lose_none (esc ∷ []) one s second found = absurd (let e : ⊥ = cc in e)
+opened_lose_none (esc ∷ b ∷ more) one s second found = by (esc == 0x1B) found
   where
     by : (test : Bool) → cond test (escape_ahead b (take 254 more)) None ≡ Some one → feeds_line one.unit s ≡ false
     by true is =
-        control_level (take 254 more) one s (ap (λ (x : ℕ). escape_ahead x (take 254 more)) (sym second) ∙ is)
+        control_lose_none (take 254 more) one s (ap (λ (x : ℕ). escape_ahead x (take 254 more)) (sym second) ∙ is)
     by false is = absurd (let e : ⊥ = cc in e)
 
 -- a sequence that is read at once loses no row above the last row, nor if it is a control sequence
-pub ahead_level : SequencesAreUnits → (text : List ℕ) (old : Reached Screen) (s : Screen) (rest : Rest) (m : Mode)
+pub ahead_lose_none : SequencesAreUnits → (text : List ℕ) (old : Reached Screen) (s : Screen) (rest : Rest) (m : Mode)
     → make_reached s rest ≡ old → m ≡ mode_of s → (is_at_end s ≡ false) ⊎ (get_or text 1 0 ≡ 0x5B)
     → rows_of_run old (take (bytes_ahead old text) text) ≡ []
-ahead_level law text old s rest m view mode level =
+ahead_lose_none law text old s rest m view mode no_loss =
     ap (λ (n : ℕ). rows_of_run old (take n text)) (ap (λ (at : Reached Screen). bytes_ahead at text) (sym view))
     ∙ by (taken_ahead rest text) refl
   where
@@ -100,11 +100,11 @@ ahead_level law text old s rest m view mode level =
         ∙ sequence_rows law text old s rest m one view mode found
         ∙ ⊎_elim (above_end one.unit s)
         (λ (second : get_or text 1 0 ≡ 0x5B). not_fed one.unit s (empty (is_empty rest.text) second found))
-        level
+        no_loss
       where
         empty : (test : Bool) → get_or text 1 0 ≡ 0x5B → cond test (sequence_ahead text) None ≡ Some one
             → feeds_line one.unit s ≡ false
-        empty true second is = opened_level text one s second is
+        empty true second is = opened_lose_none text one s second is
         empty false second is = absurd (let e : ⊥ = cc in e)
 
 -- so many columns from the cursor on end in its row, if there are any
@@ -217,35 +217,35 @@ room_fits n s few some = by s.state.wrap s.state.insert refl refl
         (wrapped, opened, omega (arith, some, few, left))
 
 -- characters that fit lose no row
-char_level : (code n : ℕ) (s : Screen) → Fits (columns code + n) s
+char_lose_none : (code n : ℕ) (s : Screen) → Fits (columns code + n) s
     → then_fallen (units.Unit.Char code) (bare s) ≡ bare (print_character code s)
-char_level code n s fit =
+char_lose_none code n s fit =
     let none : fallen (units.Unit.Char code) s ≡ [] =
     not_fed (units.Unit.Char code) s (fits_here (columns code) s (fits_first (columns code) n s fit)) in
     λ i. record { screen = print_character code s; rows = none i }
 
-shown_level : AtMostTwo → (codes : List ℕ) (s : Screen) → Fits (columns_of_all codes) s
+shown_lose_none : AtMostTwo → (codes : List ℕ) (s : Screen) → Fits (columns_of_all codes) s
     → (all_shown row_effects codes (bare s)).rows ≡ []
-shown_level most [] s fit = refl
-shown_level most (code ∷ codes) s fit =
-    ap (λ (t : ScreenAndRows). (all_shown row_effects codes t).rows) (char_level code (columns_of_all codes) s fit)
-    ∙ shown_level most codes (print_character code s)
+shown_lose_none most [] s fit = refl
+shown_lose_none most (code ∷ codes) s fit =
+    ap (λ (t : ScreenAndRows). (all_shown row_effects codes t).rows) (char_lose_none code (columns_of_all codes) s fit)
+    ∙ shown_lose_none most codes (print_character code s)
     (fits_on (columns code) (columns_of_all codes) code s (most code) fit)
 
-pub characters_level : PrintablesAreCharacters → AtMostTwo → (text codes : List ℕ) (s : Screen) (rest : Rest) (m : Mode)
+pub characters_lose_none : PrintablesAreCharacters → AtMostTwo → (text codes : List ℕ) (s : Screen) (rest : Rest) (m : Mode)
     → m ≡ mode_of s → AreTextsOf text codes → rest.text ≡ [] → decodes m ≡ true → Fits (columns_of_all codes) s
     → rows_of_run (make_reached s rest) text ≡ []
-characters_level law most text codes s rest m mode are nothing decoding fit =
+characters_lose_none law most text codes s rest m mode are nothing decoding fit =
     ap (λ (at : Reached ScreenAndRows). at.state.rows)
     (characters_run row_effects law (λ c t. print_mode (columns c) c t.screen) text codes (bare s) rest m (sym mode) are nothing decoding)
-    ∙ shown_level most codes s fit
+    ∙ shown_lose_none most codes s fit
 
 -- printable bytes that fit lose no row
-printables_level : PrintablesAreCharacters → LowTakeOne → AtMostTwo → (bytes : List ℕ) (s : Screen) (rest : Rest)
+printables_lose_none : PrintablesAreCharacters → LowTakeOne → AtMostTwo → (bytes : List ℕ) (s : Screen) (rest : Rest)
     → AllPrintable bytes → rest.text ≡ [] → decodes (mode_of s) ≡ true → Fits (length bytes) s
     → rows_of_run (make_reached s rest) bytes ≡ []
-printables_level law low most [] s rest all nothing decoding fit = refl
-printables_level law low most (b ∷ bytes) s rest all nothing decoding fit =
+printables_lose_none law low most [] s rest all nothing decoding fit = refl
+printables_lose_none law low most (b ∷ bytes) s rest all nothing decoding fit =
     let m : Mode = mode_of s in
     let one = law rest m b nothing decoding all.0 in
     let ends = and_parts (nat_le 0x20 b) (nat_le b 0x7E) all.0 in
@@ -259,17 +259,17 @@ printables_level law low most (b ∷ bytes) s rest all nothing decoding fit =
     let first : step row_effects b (make_reached (bare s) rest) ≡ make_reached (bare (print_character b s)) (fresh m) =
     ap (λ (r : Read). make_reached (effects_of row_effects r (bare s)) (rest_after rest m b)) one.0
     ∙ ap (λ (r : Rest). make_reached (then_fallen (units.Unit.Char b) (bare s)) r) one.1
-    ∙ ap (λ (t : ScreenAndRows). make_reached t (fresh m)) (char_level b (length bytes) s fitting) in
+    ∙ ap (λ (t : ScreenAndRows). make_reached t (fresh m)) (char_lose_none b (length bytes) s fitting) in
     ap (λ (at : Reached ScreenAndRows). (run row_effects bytes at).state.rows) first
-    ∙ printables_level law low most bytes (print_character b s) (fresh m) all.1 refl (ap decodes same ∙ decoding)
+    ∙ printables_lose_none law low most bytes (print_character b s) (fresh m) all.1 refl (ap decodes same ∙ decoding)
     (fits_on (columns b) (length bytes) b s (most b) fitting)
 
 -- the printable bytes at the front of the first k bytes, as they are taken
-pub front_level : PrintablesAreCharacters → LowTakeOne → AtMostTwo → (text : List ℕ) (k count : ℕ) (old : Reached Screen) (s : Screen)
+pub front_lose_none : PrintablesAreCharacters → LowTakeOne → AtMostTwo → (text : List ℕ) (k count : ℕ) (old : Reached Screen) (s : Screen)
     (rest : Rest) (m : Mode) → make_reached s rest ≡ old → m ≡ mode_of s
     → count ≡ (if is_empty rest.text && decodes m then prefix_len is_printable (take k text) else 0)
     → count ≤ length (take k text) → Fits k s → rows_of_run old (take count text) ≡ []
-front_level law low most text k count old s rest m view mode is within fit =
+front_lose_none law low most text k count old s rest m view mode is within fit =
     by (is_empty rest.text && decodes m) refl
   where
     by : (test : Bool) → (is_empty rest.text && decodes m) ≡ test → rows_of_run old (take count text) ≡ []
@@ -283,7 +283,7 @@ front_level law low most text k count old s rest m view mode is within fit =
         λ some. let here = fit (omega (arith, some, within, length-take count front, length-take k text)) in
         (here.0, here.1, omega (arith, here.2, within, length-take count front, length-take k text)) in
         (λ i. rows_of_run (sym view i) (take_short count k text within i))
-        ∙ printables_level law low most (take count front) s rest all (empty_is rest.text parts.0)
+        ∙ printables_lose_none law low most (take count front) s rest all (empty_is rest.text parts.0)
         (ap decodes (sym mode) ∙ parts.1) fits
     by false other =
         let none : count ≡ 0 = is ∙ cond-false _ _ _ other in
