@@ -6,7 +6,7 @@ use vt_screen::Emu;
 
 /// `struct vt_state`: the size, the cursor and the modes, each mode 1 or 0.
 #[repr(C)]
-#[derive(Clone, Copy, Debug, Drop, PartialEq)]
+#[derive(Clone, Copy, Drop, PartialEq)]
 pub struct VtState {
     pub rows: u16,
     pub cols: u16,
