@@ -7,8 +7,8 @@ ghost use Rattle.key_dump.specs.ReadsBack.{ReadsAs};
 ghost use Rattle.key_syms.specs.Act.{is_character};
 ghost use Rattle.key_text.specs.KeymapLine.{is_real};
 
+use crate::code_point::add_code_point;
 use crate::entries::add_table;
-use crate::numerals::{add, add_code_point, add_number};
 use crate::quoting::add_string;
 use key_syms::{Pair, STRING_COUNT, TABLE_COUNT};
 use key_tables::KeyTables;
@@ -68,9 +68,9 @@ fn add_keymaps(alloc: Global, text: &mut Bytes, tables: &KeyTables) -> Result<()
     ensures { OnOk result (text.new.bytes
         ≡ text.old.bytes ++ row_text (keymaps_words tables.now)) }
 {
-    add(alloc, text, b"keymaps ")?;
+    text.add(alloc, b"keymaps ")?;
     add_numbers(alloc, text, tables)?;
-    add(alloc, text, b"\n")?;
+    text.add(alloc, b"\n")?;
     Ok(())
 }
 
@@ -83,7 +83,7 @@ fn add_numbers(alloc: Global, text: &mut Bytes, tables: &KeyTables) -> Result<()
     for t in 0..TABLE_COUNT {
         if tables.exists(t as u8) {
             add_comma(alloc, text, some)?;
-            add_number(alloc, text, t as u8)?;
+            text.add_decimal(alloc, t as u64)?;
             some = true;
             continue;
         }
@@ -95,7 +95,7 @@ fn add_comma(alloc: Global, text: &mut Bytes, some: bool) -> Result<(), NoMemory
     ensures { OnOk result (text.new.bytes ≡ text.old.bytes ++ cond some (codes ",") []) }
 {
     if some {
-        return add(alloc, text, b",");
+        return text.add(alloc, b",");
     }
     Ok(())
 }
@@ -138,13 +138,13 @@ fn add_pairs(alloc: Global, text: &mut Bytes, pairs: &[Pair]) -> Result<(), NoMe
 fn add_pair(alloc: Global, text: &mut Bytes, pair: Pair) -> Result<(), NoMemory>
     ensures { OnOk result (text.new.bytes ≡ text.old.bytes ++ row_text (pair_words pair)) }
 {
-    add(alloc, text, b"compose ")?;
+    text.add(alloc, b"compose ")?;
     add_code_point(alloc, text, pair.accent)?;
-    add(alloc, text, b" ")?;
+    text.add(alloc, b" ")?;
     add_code_point(alloc, text, pair.base)?;
-    add(alloc, text, b" to ")?;
+    text.add(alloc, b" to ")?;
     add_code_point(alloc, text, pair.result)?;
-    add(alloc, text, b"\n")?;
+    text.add(alloc, b"\n")?;
     Ok(())
 }
 

@@ -7,7 +7,6 @@ ghost use Rattle.key_tables.specs.Tables.{map_of};
 ghost use Rattle.key_dump.specs.Dump.{entry_rows, entry_words, modifier_words, row_text, table_rows};
 ghost use Rattle.key_dump.specs.Spaced.{blank_after_each};
 
-use crate::numerals::{add, add_number};
 use key_syms::{Action, KEYCODES, kind, name_of};
 use key_tables::KeyTables;
 use std::alloc::Global;
@@ -76,11 +75,11 @@ fn add_entry_row(
         ≡ text.old.bytes ++ row_text (entry_words t c action)) }
 {
     add_modifiers(alloc, text, t)?;
-    add(alloc, text, b"keycode ")?;
-    add_number(alloc, text, c)?;
-    add(alloc, text, b" = ")?;
-    add(alloc, text, name_of(action).as_bytes())?;
-    add(alloc, text, b"\n")?;
+    text.add(alloc, b"keycode ")?;
+    text.add_decimal(alloc, u64::from(c))?;
+    text.add(alloc, b" = ")?;
+    text.add(alloc, name_of(action).as_bytes())?;
+    text.add(alloc, b"\n")?;
     Ok(())
 }
 
@@ -89,7 +88,7 @@ fn add_modifiers(alloc: Global, text: &mut Bytes, t: u8) -> Result<(), NoMemory>
     ensures { OnOk result (text.new.bytes ≡ text.old.bytes ++ blank_after_each (modifier_words t)) }
 {
     if t == 0 {
-        return add(alloc, text, b"plain ");
+        return text.add(alloc, b"plain ");
     }
     add_modifier(alloc, text, t, 1, b"shift ")?;
     add_modifier(alloc, text, t, 2, b"altgr ")?;
@@ -114,7 +113,7 @@ fn add_modifier(
         ≡ text.old.bytes ++ cond (t / weight % 2 == 1) word.now []) }
 {
     if t / weight % 2 == 1 {
-        return add(alloc, text, word);
+        return text.add(alloc, word);
     }
     Ok(())
 }

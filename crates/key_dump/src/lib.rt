@@ -1,10 +1,10 @@
 //! Key tables as keymap text (dumpkeys(1)).
 #![tactic(auto)]
 
+mod code_point;
 mod dumping;
 mod entries;
 mod laws;
-mod numerals;
 mod quoting;
 
 pub use dumping::{dump, dumpable};

@@ -3,7 +3,6 @@ ghost use Rattle.std.specs.Prelude.{◌≡◌, ◌++◌, [], ◌∷◌, OnOk};
 ghost use Rattle.std.specs.List.{flat_map};
 ghost use Rattle.key_dump.specs.Dump.{escape_of, is_plain, octal_escape, quoted_text, row_text, string_rows, string_words};
 
-use crate::numerals::add;
 use key_syms::{Action, kind, name_of};
 use std::alloc::Global;
 use vt_base::{Bytes, NoMemory};
@@ -32,11 +31,11 @@ fn add_string_row(alloc: Global, text: &mut Bytes, i: u8, string: &[u8]) -> Resu
         kind: kind::FUNCTION,
         value: u16::from(i),
     };
-    add(alloc, text, b"string ")?;
-    add(alloc, text, name_of(key).as_bytes())?;
-    add(alloc, text, b" = \"")?;
+    text.add(alloc, b"string ")?;
+    text.add(alloc, name_of(key).as_bytes())?;
+    text.add(alloc, b" = \"")?;
     add_escaped(alloc, text, string)?;
-    add(alloc, text, b"\"\n")?;
+    text.add(alloc, b"\"\n")?;
     Ok(())
 }
 
@@ -54,11 +53,10 @@ fn add_byte(alloc: Global, text: &mut Bytes, b: u8) -> Result<(), NoMemory>
     ensures { OnOk result (text.new.bytes ≡ text.old.bytes ++ escape_of b) }
 {
     if is_plain(b) {
-        return add(alloc, text, &[b]);
+        return text.add(alloc, &[b]);
     }
-    add(
+    text.add(
         alloc,
-        text,
         &[b'\\', b'0' + b / 64, b'0' + b / 8 % 8, b'0' + b % 8],
     )
 }

@@ -2,7 +2,7 @@
 ghost use Rattle.std.specs.Prelude.{◌≡◌};
 ghost use Rattle.machine.specs.History.{world_of};
 ghost use Rattle.machine.specs.MachineState.{text_of};
-ghost use Rattle.vt_journal.specs.Text.{Adds};
+ghost use Rattle.vt_base.specs.Bytes.{Adds};
 ghost use Rattle.vt_world.specs.History.{IsLegal};
 
 use crate::machine::Machine;

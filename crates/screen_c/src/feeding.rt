@@ -11,7 +11,7 @@ ghost use Rattle.vt_units.specs.Run.{Reached};
 use crate::{ScreenHandle, VtFed, VtOut};
 use c_calls::code;
 use std::alloc::Global;
-use vt_screen::{Emu, SideEffect, any_cut};
+use vt_screen::{Emu, SideEffect};
 
 /// Runs a text up to its end, or until `outs` is full, and writes its reports, bells and requests to `outs`.
 #[unsafe(no_mangle)]
@@ -65,7 +65,6 @@ pub extern "C" fn vt_nonnull_screen_write(
 fn feed(emu: &mut Emu, b: &[u8], places: &mut [VtOut]) -> VtFed
     ensures { IsFed emu.old b.now places.old places.new result emu.new }
 {
-    any_cut();
     let mut effect = SideEffect::new();
     let mut at = 0;
     let mut n = 0;

@@ -16,7 +16,7 @@ use c_calls::code;
 use c_cells::VtCell;
 use std::alloc::Global;
 use vt_cells::Cell;
-use vt_screen::{Emu, FallenRows, SideEffect, any_cut, any_row_cut};
+use vt_screen::{Emu, FallenRows, SideEffect};
 
 /// Does what `vt_nonnull_screen_feed` does, and writes the cells of the rows that fall out at the top of the screen
 /// to `cells`, row after row. It ends also if fewer than two rows have room.
@@ -72,8 +72,6 @@ fn feed_by_rows(
     requires { most ≡ rows_fitting cells.old emu.old }
     ensures { IsFedByRows emu.old b.now places.old places.new cells.old cells.new result emu.new }
 {
-    any_cut();
-    any_row_cut();
     let mut effect = SideEffect::new();
     let mut fallen = FallenRows::new();
     let mut at = 0;

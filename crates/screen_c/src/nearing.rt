@@ -16,9 +16,10 @@ use crate::{OwnedScreen, ScreenLoan};
 use c_calls::{code, hand_over, read};
 use std::alloc::Global;
 use vt_base::{Bytes, NoMemory};
-use vt_redraw::{LeftOut, left_out, near_is_drawn, redraw_changes_near, redraw_near};
+use vt_redraw::{LeftOut, left_out, redraw_changes_near, redraw_near};
 
 /// What a text of the screen leaves out: a sum of enum vt_left_out, which is 0 if a text draws this very screen.
+#[tactic(auto, using(vt_redraw::proofs::Stated::nothing_is_left_out))]
 #[unsafe(no_mangle)]
 pub extern "C" fn vt_lent_screen_left_out(loan: &mut ScreenLoan, parts: &mut u32) -> u8
     ensures same { IsSameLoan loan.old loan.new }
@@ -27,7 +28,6 @@ pub extern "C" fn vt_lent_screen_left_out(loan: &mut ScreenLoan, parts: &mut u32
     ensures none { IfSome loan.old.value (λ o. (parts.new ≡ 0) ↔ IsTrue (is_redrawable o.emu.state)) }
 {
     read!(loan, screen => {
-        near_is_drawn();
         *parts = number_of(left_out(&screen.emu));
         code::OK
     })

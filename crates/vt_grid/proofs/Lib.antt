@@ -12,5 +12,6 @@ mod Parts
 mod Scrolls
 mod Shown
 mod Split
+pub mod Stated
 mod Turns
 mod for_laws

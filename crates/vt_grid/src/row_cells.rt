@@ -1,4 +1,4 @@
-ghost use Rattle.std.specs.Prelude.{◌≡◌, ◌++◌, ◌↔◌, IsTrue, length, replicate};
+ghost use Rattle.std.specs.Prelude.{◌≡◌, ◌≤◌, ◌++◌, ◌↔◌, IsTrue, drop, length, replicate};
 ghost use Rattle.std.specs.Iterator.{YieldsFirst, item_count};
 
 use crate::packed_cell::PackedCell;
@@ -30,6 +30,22 @@ impl<'a> RowCells<'a> {
         ensures { result ≡ stored.now ++ replicate past rest }
     {
         RowCells { stored, rest, past }
+    }
+
+    /// Writes all cells into the first places, and returns their number.
+    pub fn write_to(self, places: &mut [Cell]) -> usize
+        requires { length self ≤ length places.old }
+        ensures count { result ≡ length self.entry }
+        ensures places { places.new ≡ self.entry ++ drop (length self.entry) places.old }
+    {
+        let count = self.stored.len();
+        let (front, back) = places.split_at_mut(count);
+        write_each(RowCells::new(self.stored, self.rest, 0), front);
+        write_each(
+            RowCells::new(&self.stored[count..], self.rest, self.past),
+            back,
+        );
+        count + usize::from(self.past)
     }
 
     /// Whether both have the same cells left. Of rows that store as many cells and have the same blank end,
@@ -69,6 +85,19 @@ impl<'a> Iterator for RowCells<'a> {
 }
 
 impl<'a> FusedIterator for RowCells<'a> {}
+
+// Writes each cell into a place, from the first place on.
+#[inline(always)]
+fn write_each(cells: RowCells<'_>, places: &mut [Cell])
+    requires { length cells ≤ length places.old }
+    ensures { places.new ≡ cells.entry ++ drop (length cells.entry) places.old }
+{
+    let mut n = 0;
+    for cell in cells {
+        places[n] = cell;
+        n += 1;
+    }
+}
 
 // Whether both have the same cells.
 fn are_same(first: &[PackedCell], second: &[PackedCell]) -> bool

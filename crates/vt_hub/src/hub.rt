@@ -28,7 +28,7 @@ use turn_lock::TurnLock;
 use vt_base::{CallerNo, ConsoleNo, NoMemory, Size};
 use vt_events::Event;
 use vt_journal::{Limits, Log};
-use vt_world::{Spare, World, screens_are_tapes};
+use vt_world::{Spare, World};
 
 /// One machine for callers in several threads. Contracts see which hub it is.
 #[derive(Drop)]
@@ -238,7 +238,6 @@ impl<J: Opening> Hub<J> {
         requires all { count_by is_out s.stands ≡ 0 }
         ensures { IsWhole J.start J.limits s result.world result.log result.stop }
     {
-        screens_are_tapes();
         let Hub {
             lock,
             wake_ups: _,

@@ -17,9 +17,7 @@ use turn_lock::Seal;
 use vt_base::{CallerNo, NoMemory};
 use vt_events::{Entry, Event, charge};
 use vt_journal::{Full, Log};
-use vt_world::{
-    Spare, World, displays_are_lawful_from, legal_grows, sizes_stay, tickets_are_called,
-};
+use vt_world::{Spare, World, displays_are_lawful_from};
 
 /// The value under the lock: the world after the entries of the log, and where the hub stopped.
 #[derive(Drop)]
@@ -41,6 +39,7 @@ impl<J: Opening> Model for Shared<J> {
 
 impl<J: Opening> Shared<J> {
     /// The world that is opened, with no entries.
+    #[tactic(auto, using(vt_world::proofs::Histories::nothing_is_legal))]
     pub(crate) fn new(alloc: Global, world: World, log: Log) -> Result<Shared<J>, NoMemory>
         requires start { world ≡ J.start }
         requires limits { log.limits ≡ J.limits }
@@ -49,7 +48,6 @@ impl<J: Opening> Shared<J> {
         ensures log { IfOk result (λ made. made.log ≡ log) }
         ensures stop { IfOk result (λ made. made.stop ≡ None) }
     {
-        legal_grows();
         displays_are_lawful_from(&world);
         let _front = world.display().get(); // it says that the console is 1 to 63
         let state = State {
@@ -132,9 +130,6 @@ impl<J: Opening> Shared<J> {
         requires room { HasRoom self.old.log charge }
         ensures { ComesTo caller seq event.old self.old self.new result }
     {
-        legal_grows();
-        sizes_stay();
-        tickets_are_called();
         self.sound();
         let state = &mut *self.state;
         let at = state.log.entries().len() as u32;

@@ -2,7 +2,7 @@ ghost use Rattle.vt_io.specs.Stream.{IsWrite, Stream};
 
 use crate::Failed;
 
-/// A sink of bytes.
+/// The trait of a sink: a write takes a part of its bytes, or fails and counts a fault.
 pub trait Sink {
     // The bytes that are held, if they are known, and the count of faults.
     ghost stream: { Self → Stream };

@@ -3,7 +3,7 @@ ghost use Rattle.vt_io.specs.Stream.{IsRead, Stream};
 
 use crate::Failed;
 
-/// A source of bytes.
+/// The trait of a source: a read gives the next bytes, 0 of them at the end, or fails and counts a fault.
 pub trait Source {
     // The bytes that are left, if they are known, and the count of faults.
     ghost stream: { Self → Stream };

@@ -13,7 +13,7 @@ use Rattle.vt_events.specs.declared.event.Event.{Event}
 use Rattle.vt_events.specs.declared.kind.Kind.{Kind}
 use Rattle.vt_events.specs.declared.kind.Kind.TheVariants as calls
 use Rattle.vt_journal.specs.Cut.{words_of_text}
-use Rattle.vt_journal.specs.Hex.{hex_byte, hex_digit}
+use Rattle.vt_base.specs.Digits.{hex_byte, hex_digit}
 use Rattle.vt_journal.specs.Lines.{IsLine}
 use Rattle.vt_journal.specs.Text.{blank_before_each}
 use Rattle.vt_journal.specs.Words.{IsFit, event_words, held_words, joined_by_blanks}

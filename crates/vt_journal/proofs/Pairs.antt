@@ -7,7 +7,8 @@ use Rattle.std.proofs.Math.Seq.{take-suc}
 use Rattle.std.proofs.lemmas.Bool.Decides.{nat_tests}
 use Rattle.std.proofs.lemmas.List.Concat.{flat_map-append}
 use Rattle.std.proofs.lemmas.List.Elements.{All-cons}
-use Rattle.vt_journal.specs.Hex.{hex_byte, hex_digit, hex_text}
+use Rattle.vt_base.specs.Digits.{hex_byte, hex_digit}
+use Rattle.vt_journal.specs.Hex.{hex_text}
 use Rattle.vt_journal.specs.Readers.{Finds}
 
 -- each byte has two digits

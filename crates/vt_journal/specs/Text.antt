@@ -7,11 +7,6 @@ use Rattle.vt_base.specs.Bytes.{Text}
 pub record Begins (before text : List ℕ) : Type 0 where
   pub front : take (length before) text ≡ before
 
--- the piece is added; if memory runs out, the text and its room are unchanged
-abbrev pub Adds : {T E : Type 0} → List ℕ → Text → Text → Result T E → Type 0
-Adds piece old new (Ok done) = new.bytes ≡ old.bytes ++ piece
-Adds piece old new (Err e) = new ≡ old
-
 -- the piece is added; if memory runs out, the text begins with the bytes that it had. It is for texts of the crate's
 -- own: a text of a caller is unchanged then
 abbrev pub AddsPart : {T E : Type 0} → List ℕ → Text → Text → Result T E → Type 0

@@ -1,8 +1,9 @@
 //! Adds words to a text, with room for them.
 ghost use Rattle.std.specs.Prelude.{◌≡◌, ◌<◌, ◌≤◌, ◌^◌, [], ◌∷◌, decimal, map, OnOk, OnErr};
 ghost use Rattle.std.specs.List.{All};
+ghost use Rattle.vt_base.specs.Bytes.{Adds};
 ghost use Rattle.vt_journal.specs.Hex.{hex_text};
-ghost use Rattle.vt_journal.specs.Text.{Adds, AddsPart, blank_before_each};
+ghost use Rattle.vt_journal.specs.Text.{AddsPart, blank_before_each};
 
 use crate::add_hex;
 use itoa::Buffer;
@@ -36,21 +37,17 @@ fn take_room(alloc: Global, text: &mut Bytes, n: usize) -> Result<(), NoMemory>
 }
 
 /// Adds the bytes.
-#[inline(always)]
 pub fn add(alloc: Global, text: &mut Bytes, b: &[u8]) -> Result<(), NoMemory>
     ensures { Adds b.now text.old text.new result }
 {
-    make_room(alloc, text, b.len())?;
-    text.append(b);
-    Ok(())
+    text.add(alloc, b)
 }
 
 /// Adds the number.
 pub fn add_number(alloc: Global, text: &mut Bytes, n: u64) -> Result<(), NoMemory>
     ensures { Adds (decimal n) text.old text.new result }
 {
-    let mut buffer = Buffer::new();
-    add(alloc, text, buffer.format(n).as_bytes())
+    text.add_decimal(alloc, n)
 }
 
 /// Adds a blank and the word.
@@ -67,7 +64,17 @@ pub(crate) fn add_word(alloc: Global, text: &mut Bytes, word: &[u8]) -> Result<(
 pub(crate) fn add_end(alloc: Global, text: &mut Bytes) -> Result<(), NoMemory>
     ensures { Adds (0x0A ∷ []) text.old text.new result }
 {
-    add(alloc, text, b"\n")
+    add_byte(alloc, text, b'\n')
+}
+
+// Adds the byte.
+#[inline(always)]
+fn add_byte(alloc: Global, text: &mut Bytes, b: u8) -> Result<(), NoMemory>
+    ensures { Adds (b ∷ []) text.old text.new result }
+{
+    make_room(alloc, text, 1)?;
+    text.push(b);
+    Ok(())
 }
 
 /// Adds a blank and the number in decimal.
@@ -87,27 +94,27 @@ pub(crate) fn add_lettered(
 ) -> Result<(), NoMemory>
     ensures { Adds (letter ∷ decimal n) text.old text.new result }
 {
+    if n >= 1_000 {
+        return add_long(alloc, text, letter, n);
+    }
+    make_room(alloc, text, 4)?;
     if n < 10 {
-        return add(alloc, text, &[letter, b'0' + n as u8]);
+        text.push(letter);
+        text.push(b'0' + n as u8);
+        return Ok(());
     }
     if n < 100 {
-        return add(
-            alloc,
-            text,
-            &[letter, b'0' + (n / 10) as u8, b'0' + (n % 10) as u8],
-        );
+        text.append(&[letter, b'0' + (n / 10) as u8, b'0' + (n % 10) as u8]);
+        return Ok(());
     }
-    if n < 1_000 {
-        let (high, low) = (n / 100, n % 100);
-        let digits = [
-            letter,
-            b'0' + high as u8,
-            b'0' + (low / 10) as u8,
-            b'0' + (low % 10) as u8,
-        ];
-        return add(alloc, text, &digits);
-    }
-    add_long(alloc, text, letter, n)
+    let (high, low) = (n / 100, n % 100);
+    text.append(&[
+        letter,
+        b'0' + high as u8,
+        b'0' + (low / 10) as u8,
+        b'0' + (low % 10) as u8,
+    ]);
+    Ok(())
 }
 
 // Adds the letter and a number of any length.
@@ -146,7 +153,7 @@ pub(crate) fn add_bytes(alloc: Global, text: &mut Bytes, b: &[u8]) -> Result<(),
     ensures adds { AddsPart (0x20 ∷ hex_text b.now) text.old text.new result }
     ensures fit { All (λ x. x < 2 ^ 8) b.now }
 {
-    add(alloc, text, b" ")?;
+    add_byte(alloc, text, b' ')?;
     add_hex(alloc, text, b)?;
     Ok(())
 }

@@ -2,10 +2,10 @@
 ghost use Rattle.std.specs.Prelude.{◌≡◌, ◌<◌, ◌≤◌, false, true, [], ◌∷◌, decimal, IfSome};
 ghost use Rattle.std.specs.Bool.{OnFalse, OnTrue};
 ghost use Rattle.std.specs.List.{All};
+ghost use Rattle.vt_base.specs.Bytes.{Adds};
 ghost use Rattle.vt_base.specs.Limits.{callers, processes};
 ghost use Rattle.vt_journal.specs.Callers.{HasWord, caller_word, is_process, keyboard_number};
 ghost use Rattle.vt_journal.specs.Readers.{Finds, Takes};
-ghost use Rattle.vt_journal.specs.Text.{Adds};
 
 use crate::adding::{add_lettered, add_number};
 use crate::numbers::number_of;

@@ -1,11 +1,11 @@
 //! Bytes in hexadecimal.
 ghost use Rattle.std.specs.Prelude.{◌≡◌, ◌<◌, ◌%◌, ◌^◌, length, [], ◌∷◌, option_map, IfOk, IfSome};
 ghost use Rattle.std.specs.List.{All, flat_map};
-ghost use Rattle.vt_journal.specs.Hex.{hex_byte, hex_digit, hex_text};
+ghost use Rattle.vt_base.specs.Bytes.{Adds};
+ghost use Rattle.vt_base.specs.Digits.{hex_byte, hex_digit};
+ghost use Rattle.vt_journal.specs.Hex.{hex_text};
 ghost use Rattle.vt_journal.specs.Readers.{Finds};
-ghost use Rattle.vt_journal.specs.Text.{Adds};
 
-use crate::adding::{add, make_room};
 use std::alloc::Global;
 use vt_base::{Bytes, NoMemory};
 
@@ -14,14 +14,9 @@ pub fn add_hex(alloc: Global, text: &mut Bytes, b: &[u8]) -> Result<(), NoMemory
     ensures { Adds (hex_text b.now) text.old text.new result }
 {
     if b.is_empty() {
-        return add(alloc, text, b"-");
+        return text.add(alloc, b"-");
     }
-    make_room(alloc, text, 2 * b.len())?;
-    for byte in b {
-        text.push(digit(byte >> 4));
-        text.push(digit(byte & 0xF));
-    }
-    Ok(())
+    text.add_hex(alloc, b)
 }
 
 /// The bytes that the word spells in hexadecimal.
@@ -79,12 +74,4 @@ fn value(digit: u8) -> Option<u8>
         b'a'..=b'f' => Some(digit - b'a' + 10),
         _ => None,
     }
-}
-
-// The digit of a number below 16.
-fn digit(n: u8) -> u8
-    requires { n < 16 }
-    ensures { result ≡ hex_digit n }
-{
-    if n < 10 { b'0' + n } else { b'a' - 10 + n }
 }

@@ -2,15 +2,16 @@
 ghost use Rattle.std.specs.Prelude.{◌≡◌, ◌<◌, ◌≤◌, ◌^◌, ◌∷◌, ◌++◌, decimal, map, option_copied, IfSome, OnOk};
 ghost use Rattle.std.specs.List.{All};
 ghost use Rattle.vt_events.specs.Plain.{plain_entry, plain_event, plain_reply};
+ghost use Rattle.vt_base.specs.Bytes.{Adds};
 ghost use Rattle.vt_base.specs.Limits.{processes};
 ghost use Rattle.vt_journal.specs.Callers.{IsVersion};
 ghost use Rattle.vt_journal.specs.Journal.{entry_words, first_words, journal_text, line_text, tail_words};
 ghost use Rattle.vt_journal.specs.Replies.{IsFitReply};
 ghost use Rattle.vt_journal.specs.Says.{IsFitEntry, IsFitTail};
-ghost use Rattle.vt_journal.specs.Text.{Adds, AddsPart, blank_before_each};
+ghost use Rattle.vt_journal.specs.Text.{AddsPart, blank_before_each};
 ghost use Rattle.vt_journal.specs.Words.{IsFit, event_words, held_words, reply_words};
 
-use crate::adding::{add, add_bytes, add_end, add_named, add_next, make_room};
+use crate::adding::{add_bytes, add_end, add_named, add_next, make_room};
 use crate::callers::add_caller;
 use crate::{Full, Tail};
 use std::alloc::Global;
@@ -82,7 +83,7 @@ fn add_numbered(
     ensures { OnOk result
         (text.new.bytes ≡ text.old.bytes ++ line_text (name.now ∷ map decimal numbers.now)) }
 {
-    add(alloc, text, name)?;
+    text.add(alloc, name)?;
     for n in numbers {
         add_next(alloc, text, *n)?;
     }
@@ -105,7 +106,7 @@ pub(crate) fn add_entry(
     add_caller(alloc, text, entry.caller, version)?;
     add_next(alloc, text, u64::from(entry.seq))?;
     add_event_words(alloc, text, &entry.event)?;
-    add(alloc, text, b" =")?;
+    text.add(alloc, b" =")?;
     add_reply_words(alloc, text, &entry.reply)?;
     add_end(alloc, text)?;
     Ok(())
@@ -141,7 +142,7 @@ pub fn add_event(alloc: Global, text: &mut Bytes, e: &Event) -> Result<(), NoMem
 {
     let mut words = Bytes::new(alloc);
     add_event_words(alloc, &mut words, e)?;
-    add(alloc, text, words.as_slice())
+    text.add(alloc, words.as_slice())
 }
 
 // Adds the words of a call, piece by piece: if memory runs out, a part of them may stand in the text.
@@ -175,7 +176,7 @@ pub fn add_reply(alloc: Global, text: &mut Bytes, r: &Reply) -> Result<(), NoMem
 {
     let mut words = Bytes::new(alloc);
     add_reply_words(alloc, &mut words, r)?;
-    add(alloc, text, words.as_slice())
+    text.add(alloc, words.as_slice())
 }
 
 // Adds the words of an answer, piece by piece: if memory runs out, a part of them may stand in the text.
@@ -214,7 +215,7 @@ fn add_reply_words(alloc: Global, text: &mut Bytes, r: &Reply) -> Result<(), NoM
 fn add_name(alloc: Global, text: &mut Bytes, name: &[u8]) -> Result<(), NoMemory>
     ensures { AddsPart name.now text.old text.new result }
 {
-    add(alloc, text, name)?;
+    text.add(alloc, name)?;
     Ok(())
 }
 
@@ -223,7 +224,7 @@ fn add_name(alloc: Global, text: &mut Bytes, name: &[u8]) -> Result<(), NoMemory
 fn add_one(alloc: Global, text: &mut Bytes, name: &[u8], n: u64) -> Result<(), NoMemory>
     ensures { AddsPart (name.now ++ 0x20 ∷ decimal n) text.old text.new result }
 {
-    add(alloc, text, name)?;
+    text.add(alloc, name)?;
     add_next(alloc, text, n)?;
     Ok(())
 }

@@ -1,14 +1,13 @@
 //! The lines of a journal, one by one.
 ghost use Rattle.std.specs.Prelude.{◌≡◌, ◌≤◌, OnOk};
+ghost use Rattle.vt_base.specs.Bytes.{Adds};
 ghost use Rattle.vt_base.specs.Limits.{processes};
 ghost use Rattle.vt_events.specs.Plain.{plain_entry};
 ghost use Rattle.vt_journal.specs.Callers.{IsVersion};
 ghost use Rattle.vt_journal.specs.Journal.{entry_words, first_words, line_text, tail_words};
 ghost use Rattle.vt_journal.specs.Says.{IsFitEntry, IsFitTail};
-ghost use Rattle.vt_journal.specs.Text.{Adds};
 
 use crate::Tail;
-use crate::adding::add;
 use crate::printing::{add_entry, add_first, add_tail};
 use std::alloc::Global;
 use vt_base::{Bytes, NoMemory};
@@ -22,7 +21,7 @@ pub fn print_first(alloc: Global, version: u8, rest: &mut Bytes) -> Result<(), N
 {
     let mut line = Bytes::new(alloc);
     add_first(alloc, &mut line, version)?;
-    add(alloc, rest, line.as_slice())
+    rest.add(alloc, line.as_slice())
 }
 
 /// Adds the line of an entry in this version. It can be read again.
@@ -39,7 +38,7 @@ pub fn print_entry(
 {
     let mut line = Bytes::new(alloc);
     add_entry(alloc, &mut line, version, entry)?;
-    add(alloc, rest, line.as_slice())
+    rest.add(alloc, line.as_slice())
 }
 
 /// Adds the last line of a journal. It can be read again.
@@ -49,5 +48,5 @@ pub fn print_tail(alloc: Global, end: &Tail, rest: &mut Bytes) -> Result<(), NoM
 {
     let mut line = Bytes::new(alloc);
     add_tail(alloc, &mut line, end)?;
-    add(alloc, rest, line.as_slice())
+    rest.add(alloc, line.as_slice())
 }

@@ -10,7 +10,6 @@ ghost use Rattle.vt_canvas.specs.Screen.{IsWhole, Screen};
 use crate::cells::add_row;
 use crate::drawable::redrawable;
 use crate::filled_rows::add_rows_but;
-use crate::laws::{near_is_drawn, screens_redraw};
 use crate::modes::{add_clearing, add_setting};
 use crate::nearest::near;
 use crate::state::add_state;
@@ -36,7 +35,6 @@ pub fn redraw(alloc: Global, emu: &Emu) -> Result<Bytes, NoMemory>
     ensures short { IfOk result
         (λ text. length text.bytes ≤ redraw_most emu.now.state.grid.rows emu.now.state.grid.cols) }
 {
-    screens_redraw();
     stays_stored(emu);
     let text = whole_text(alloc, emu)?;
     Ok(text)
@@ -54,7 +52,6 @@ pub fn redraw_changes(alloc: Global, old: &Grid, emu: &Emu) -> Result<Bytes, NoM
     ensures short { IfOk result
         (λ text. length text.bytes ≤ redraw_most emu.now.state.grid.rows emu.now.state.grid.cols) }
 {
-    screens_redraw();
     stays_stored(emu);
     let text = changes_text(alloc, old, emu)?;
     Ok(text)
@@ -62,6 +59,7 @@ pub fn redraw_changes(alloc: Global, old: &Grid, emu: &Emu) -> Result<Bytes, NoM
 
 /// The text of [`redraw`] for the nearest screen that a text can draw ([`near`]): that of the screen itself if it is
 /// redrawable. This project's own.
+#[tactic(auto, using(crate::proofs::for_laws::Nearby::screen_stays))]
 pub fn redraw_near(alloc: Global, emu: &Emu) -> Result<Bytes, NoMemory>
     ensures text { IfOk result (λ text. text.bytes ≡ redraw_of (near emu.now.state)) }
     ensures again { IfOk result
@@ -70,7 +68,6 @@ pub fn redraw_near(alloc: Global, emu: &Emu) -> Result<Bytes, NoMemory>
     ensures short { IfOk result
         (λ text. length text.bytes ≤ redraw_most emu.now.state.grid.rows emu.now.state.grid.cols) }
 {
-    near_is_drawn();
     if redrawable(emu) {
         return redraw(alloc, emu);
     }

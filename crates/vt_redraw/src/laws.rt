@@ -7,18 +7,12 @@ ghost use Rattle.vt_redraw.specs.Parts.{RedrawsUseRows};
 ghost use Rattle.vt_redraw.specs.Reached.{StatesAreDrawable, TapeCellsAreDrawable, TapeStatesAreDrawable};
 ghost use Rattle.vt_redraw.specs.Redraw.{ChangesRedraw, ScreensRedraw};
 
-use vt_units::{controls_are_units, printables_are_characters, sequences_are_units};
-
 /// The text of a redrawable screen draws it again on every screen of its size, and the text of the rows that differ
 /// draws it on every screen with the cells that it differs from.
 pub fn screens_redraw()
     ensures screens { ScreensRedraw }
     ensures changes { ChangesRedraw }
-{
-    controls_are_units();
-    printables_are_characters();
-    sequences_are_units();
-}
+{}
 
 /// If both screens have the same user's table, every later text gives the same cells and reports on a screen and on
 /// the one that was drawn again.
@@ -48,9 +42,7 @@ pub fn near_is_drawn()
     ensures exact { DrawableStays }
     ensures cells { RowsAreNear }
     ensures parts { NothingIsLeftOut }
-{
-    screens_redraw();
-}
+{}
 
 /// How long the texts of redraws are at most.
 pub fn redraws_are_short()

@@ -10,7 +10,9 @@ mod Hearing
 mod Levels
 mod Printed
 mod Quiet
+mod RowLengths
 mod Sequences
 mod Shown
+pub mod Stated
 mod TextSteps
 pub mod for_laws

@@ -1,5 +1,5 @@
 -- The rows that fall out at the top of the screen while a text is run: a run over a screen and a list of rows.
-use Rattle.std.specs.Prelude.{◌≡◌, ◌<◌, ℕ, List, [], ◌++◌, take, Option, Some, None}
+use Rattle.std.specs.Prelude.{◌≡◌, ◌<◌, ℕ, List, [], ◌++◌, length, take, Option, Some, None, All}
 use Rattle.vt_canvas.specs.Effect.{effect}
 use Rattle.vt_canvas.specs.Falling.{fallen}
 use Rattle.vt_canvas.specs.Screen.{Screen, mode_of}
@@ -38,6 +38,10 @@ rows_of_run m bytes = (run row_effects bytes (with_rows [] m)).state.rows
 -- no row falls out by the first bytes of the text, if they are fewer than so many
 abbrev pub IsLevelBefore : ℕ → Reached Screen → List ℕ → Type 0
 IsLevelBefore count old text = (k : ℕ) → k < count → rows_of_run old (take k text) ≡ []
+
+-- each row has so many cells
+abbrev pub AreWide : ℕ → List (List Cell) → Type 0
+AreWide cols rows = All (λ row. length row ≡ cols) rows
 
 -- any cut: the rows of a text are those of its two parts, wherever it is cut
 abbrev pub AnyRowCut : Type 0

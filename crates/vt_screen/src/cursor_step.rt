@@ -2,9 +2,6 @@
 ghost use Rattle.std.specs.Prelude.{◌≡◌, IfSome, is_some};
 ghost use Rattle.vt_screen.specs.ChangedRows.{Moves, after_cell, has_next_cursor};
 
-use vt_cells::columns_are_few;
-use vt_units::{controls_are_units, printables_are_characters};
-
 /// The cursor's column and row, and whether a wrap is pending.
 #[derive(Clone, Copy)]
 pub(crate) struct CursorState {
@@ -19,9 +16,6 @@ pub(crate) fn next_cursor(cols: u8, bottom: u8, at: CursorState, b: u8) -> Optio
     ensures moves { IfSome result (Moves cols bottom b at) }
     ensures known { is_some result ≡ has_next_cursor bottom at b }
 {
-    columns_are_few();
-    printables_are_characters();
-    controls_are_units();
     let is_above = at.y < bottom;
     match b {
         b' '..=b'~' if !at.wrap => Some(after_cell(cols, at)),

@@ -22,7 +22,7 @@ use std::marker::Model;
 use vt_canvas::{Canvas, ScreenState, SideEffect};
 use vt_cells::{Palette, columns_are_few};
 use vt_grid::Grid;
-use vt_units::{Codes, MOST_CODES, Pending, Then, controls_are_units, printables_are_characters};
+use vt_units::{Codes, MOST_CODES, Pending, Then, printables_are_characters};
 
 /// The most bytes that one call of [`Emu::feed`] takes.
 pub const FEED_BYTES: usize = 64;
@@ -162,7 +162,6 @@ impl Emu {
     fn take_quickly(&mut self, byte: u8, said: &mut SideEffect)
         ensures { run_from self.old (byte ∷ []) ≡ with_outs (outs_of_option said.new) self.new }
     {
-        controls_are_units();
         if !self.pending.take_control(self.canvas.mode(), byte) {
             self.take(byte, said);
             return;
@@ -216,7 +215,6 @@ impl Emu {
     fn scroll_linefeeds(&mut self, b: &[u8]) -> usize
         ensures { HasRun self.old b.now result self.new None }
     {
-        controls_are_units();
         let count = line_feeds(b);
         if count == 0
             || !self.canvas.scrolls()
@@ -270,8 +268,6 @@ impl Emu {
         ensures ran { HasRun self.old b.now result self.new None }
         ensures level { 0 < room self.old.state → rows_of_run self.old (take result b.now) ≡ [] }
     {
-        printables_are_characters();
-        columns_are_few();
         let room = self.canvas.room();
         if room == 0 {
             return self.print_one(b);
@@ -287,7 +283,6 @@ impl Emu {
     fn print_one(&mut self, b: &[u8]) -> usize
         ensures { HasRun self.old b.now result self.new None }
     {
-        printables_are_characters();
         let front = &b[..b.len().min(1)];
         let count = self.pending.take_printable(self.canvas.mode(), front);
         self.canvas.print_first(&front[..count]);

@@ -1,4 +1,4 @@
-ghost use Rattle.std.specs.Prelude.{◌≡◌, ◌<◌, ◌≤◌, [], take};
+ghost use Rattle.std.specs.Prelude.{◌≡◌, ◌<◌, ◌≤◌, [], length, take};
 ghost use Rattle.vt_grid.specs.Grid.{row_at};
 
 use std::marker::Model;
@@ -41,7 +41,8 @@ impl FallenRow {
     /// The cells become those of the first row of the grid.
     pub(crate) fn copy_first_row(&mut self, grid: &Grid)
         requires { 0 < grid.now.rows }
-        ensures { self.new ≡ row_at grid.now 0 }
+        ensures row { self.new ≡ row_at grid.now 0 }
+        ensures wide { length self.new ≡ grid.now.cols }
     {
         self.len = copy_first_row(&mut self.cells, grid);
     }
@@ -59,13 +60,9 @@ impl FallenRow {
 fn copy_first_row(cells: &mut [Cell; MOST_CELLS], grid: &Grid) -> usize
     requires { 0 < grid.now.rows }
     ensures row { take result cells.new ≡ row_at grid.now 0 }
+    ensures wide { length (row_at grid.now 0) ≡ grid.now.cols }
     ensures few { result ≤ 255 }
 {
     grid.stays_full();
-    let mut len = 0;
-    for cell in grid.row(0) {
-        cells[len] = cell;
-        len += 1;
-    }
-    len
+    grid.row(0).write_to(cells)
 }

@@ -1,6 +1,7 @@
 ghost use Rattle.std.specs.Prelude.{◌≡◌, ◌<◌, ◌≤◌, ◌+◌, ◌==◌, [], ◌∷◌, ◌++◌, length, slice_index_or};
 ghost use Rattle.vt_canvas.specs.Falling.{fallen};
 ghost use Rattle.vt_grid.specs.Grid.{row_at};
+ghost use Rattle.vt_screen.specs.Falling.{AreWide};
 
 use crate::fallen_row::FallenRow;
 use std::marker::Model;
@@ -79,6 +80,7 @@ impl FallenRows {
         requires { length self.old < 2 }
         ensures kept { self.new ≡ self.old ++ fallen unit.now canvas.now }
         ensures few { length self.new ≤ length self.old + 1 }
+        ensures wide { AreWide canvas.now.grid.cols self.old → AreWide canvas.now.grid.cols self.new }
     {
         if canvas.loses_row(unit) {
             self.push(canvas.grid());
@@ -89,7 +91,8 @@ impl FallenRows {
     fn push(&mut self, grid: &Grid)
         requires room { length self.old < 2 }
         requires some { 0 < grid.now.rows }
-        ensures { self.new ≡ self.old ++ row_at grid.now 0 ∷ [] }
+        ensures kept { self.new ≡ self.old ++ row_at grid.now 0 ∷ [] }
+        ensures wide { AreWide grid.now.cols self.old → AreWide grid.now.cols self.new }
     {
         if self.count == 0 {
             self.first.copy_first_row(grid);

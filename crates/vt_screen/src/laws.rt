@@ -6,10 +6,6 @@ ghost use Rattle.vt_screen.specs.Halves.{HalvesFollowWide, TapesKeepHalves};
 ghost use Rattle.vt_screen.specs.Run.{AnyCut, PiecesAct, PiecesResume, TextsAreCut};
 ghost use Rattle.vt_screen.specs.Tape.{AnyTapeCut, StretchesRun};
 
-use vt_cells::columns_are_few;
-use vt_chars::unfinished_begins;
-use vt_units::texts_spell_characters;
-
 /// Running the parts of a text in order is running the whole text, however it is cut.
 pub fn any_cut()
     ensures { AnyCut }
@@ -25,9 +21,7 @@ pub fn any_row_cut()
 pub fn pieces_draw()
     ensures fresh { PiecesAct }
     ensures resumed { PiecesResume }
-{
-    unfinished_begins();
-}
+{}
 
 /// The bytes of a tape are run as bytes, and the result is the same however a tape is cut.
 pub fn tapes_run()
@@ -39,28 +33,19 @@ pub fn tapes_run()
 /// column 0 or right of another.
 pub fn tapes_keep_halves()
     ensures { TapesKeepHalves }
-{
-    columns_are_few();
-    texts_spell_characters();
-}
+{}
 
 /// In every screen that bytes and changes make from a start, a character of two columns stands left of
 /// each right half.
 pub fn halves_follow_wide()
     ensures { HalvesFollowWide }
-{
-    columns_are_few();
-    texts_spell_characters();
-}
+{}
 
 /// In every screen that bytes and changes make from a start, each character of two columns has its right
 /// half, with its attribute byte, if no word of the user's table takes two columns.
 pub fn tapes_keep_characters()
     ensures { TapesKeepCharacters }
-{
-    columns_are_few();
-    texts_spell_characters();
-}
+{}
 
 /// A text requests another console at most once in four bytes; three of them may have come before it.
 pub fn requests_are_few()
@@ -71,6 +56,4 @@ pub fn requests_are_few()
 /// the pieces, in order.
 pub fn texts_are_cut()
     ensures { TextsAreCut }
-{
-    unfinished_begins();
-}
+{}

@@ -3,7 +3,7 @@ ghost use Rattle.std.specs.Prelude.{◌≡◌, ◌<◌, ◌≤◌, length, take}
 ghost use Rattle.vt_screen.specs.Hearing.{HearsAll};
 ghost use Rattle.vt_screen.specs.Run.{after, outs_of_option, outs_of_run};
 
-use crate::{Emu, Listener, any_cut};
+use crate::{Emu, Listener};
 use vt_canvas::SideEffect;
 
 impl Emu {
@@ -13,7 +13,6 @@ impl Emu {
         ensures screen { self.new ≡ after self.old b.now }
         ensures heard { HearsAll L.hears listener.old (outs_of_run self.old b.now) listener.new }
     {
-        any_cut();
         let mut at = 0;
         while at < b.len() {
             let mut said = SideEffect::new();

@@ -2,7 +2,7 @@
 ghost use Rattle.std.specs.Prelude.{◌≡◌, ◌≤◌, None, length, take};
 ghost use Rattle.vt_screen.specs.Run.{IsQuietBefore, after, outs_of_option, outs_of_run};
 
-use crate::{Emu, any_cut};
+use crate::Emu;
 use vt_canvas::SideEffect;
 
 impl Emu {
@@ -11,7 +11,6 @@ impl Emu {
     pub fn write(&mut self, b: &[u8])
         ensures { self.new ≡ after self.old b.now }
     {
-        any_cut();
         let mut said = SideEffect::new();
         let mut rest = b;
         while !rest.is_empty() {

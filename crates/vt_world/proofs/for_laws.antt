@@ -3,6 +3,7 @@ pub mod Ages
 pub mod Allocation
 pub mod Called
 pub mod Displays
+mod Kept
 pub mod Mapping
 pub mod Moments
 pub mod Opening
@@ -10,6 +11,7 @@ mod Orders
 mod Quiet
 mod Reruns
 pub mod Rights
+mod RowDeeds
 pub mod Screens
 pub mod Sizes
 mod Steps

@@ -4,7 +4,6 @@ ghost use Rattle.vt_canvas.specs.Erasing.{above_erased, all_erased, below_erased
 ghost use Rattle.vt_grid.specs.Halves.{split_wide_between};
 
 use super::Canvas;
-use vt_grid::laws::ends_are_whole;
 
 impl Canvas {
     /// ED: erases in the display.
@@ -208,7 +207,6 @@ impl Canvas {
             ≡ with_grid self.old
             (split_wide_between self.old.grid self.old.state.y self.old.state.x (self.old.state.x + n)) }
     {
-        ends_are_whole();
         self.grid.part(self.state.y, self.state.x);
         let end = u32::from(self.state.x) + u32::from(n);
         if end < u32::from(self.grid.size().cols) {

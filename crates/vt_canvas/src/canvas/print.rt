@@ -8,8 +8,7 @@ ghost use Rattle.vt_canvas.specs.Screen.{IsWhole};
 use super::Canvas;
 use super::prefixes::{fitting_prefix, plain_prefix};
 use crate::ScreenState;
-use vt_cells::{HALF, columns, columns_are_few};
-use vt_grid::laws::stretches_join;
+use vt_cells::{HALF, columns};
 use vt_units::{Codes, MOST_CODES};
 
 /// The character that replaces one for which a row has no columns (Unicode, "REPLACEMENT CHARACTER").
@@ -77,8 +76,6 @@ impl Canvas {
         requires room { length bytes.now ≤ room self.old }
         ensures { self.new ≡ print_characters bytes.now self.old }
     {
-        stretches_join();
-        columns_are_few();
         let _ = self.room();
         if bytes.is_empty() {
             return;
@@ -121,8 +118,6 @@ impl Canvas {
         ensures within { result ≤ length codes.now }
         ensures printed { self.new ≡ print_characters (take result codes.now) self.old }
     {
-        stretches_join();
-        columns_are_few();
         let front = &codes[..codes.len().min(self.room())];
         let count = plain_prefix(front);
         if count > 0 {
@@ -137,8 +132,6 @@ impl Canvas {
         ensures within { result ≤ length codes.now }
         ensures printed { self.new ≡ print_characters (take result codes.now) self.old }
     {
-        stretches_join();
-        columns_are_few();
         let mut cells = Codes::new();
         let count = fitting_prefix(codes, self.room().min(MOST_CODES), &mut cells);
         if cells.len() == 0 {

@@ -1,6 +1,6 @@
 //! `Emu::write_until_row`: a text up to its first side effect or the first row that falls out at the top of the screen.
 ghost use Rattle.std.specs.Prelude.{◌≡◌, ◌<◌, ◌≤◌, [], ◌∷◌, None, true, length, get_or, take};
-ghost use Rattle.vt_screen.specs.Falling.{IsLevelBefore, rows_of_run};
+ghost use Rattle.vt_screen.specs.Falling.{AreWide, IsLevelBefore, rows_of_run};
 ghost use Rattle.vt_screen.specs.Run.{HasRun, IsQuietBefore, after, outs_of_option, outs_of_run, run_from, with_outs};
 
 use super::Emu;
@@ -25,6 +25,8 @@ impl Emu {
         ensures first { IsQuietBefore result self.old b.now }
         ensures level { IsLevelBefore result self.old b.now }
         ensures all { effect.new ≡ None → rows.new ≡ [] → result ≡ length b.now }
+        ensures wide { AreWide self.old.state.grid.cols rows.new }
+        ensures cols { self.new.state.grid.cols ≡ self.old.state.grid.cols }
     {
         effect.clear();
         rows.clear();
@@ -50,6 +52,7 @@ impl Emu {
         ensures ran { HasRun self.old b.now result self.new said.new }
         ensures rows { rows.new ≡ rows_of_run self.old (take result b.now) }
         ensures level { IsLevelBefore result self.old b.now }
+        ensures wide { AreWide self.old.state.grid.cols rows.new }
     {
         let count = self.take_level(b, said);
         if count > 0 {
@@ -103,6 +106,7 @@ impl Emu {
         requires { rows.old ≡ [] }
         ensures ran { run_from self.old (byte ∷ []) ≡ with_outs (outs_of_option said.new) self.new }
         ensures rows { rows.new ≡ rows_of_run self.old (byte ∷ []) }
+        ensures wide { AreWide self.old.state.grid.cols rows.new }
     {
         controls_are_units();
         said.clear();

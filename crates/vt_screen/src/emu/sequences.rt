@@ -5,7 +5,7 @@ ghost use Rattle.vt_screen.specs.Run.{HasRun};
 
 use crate::Emu;
 use vt_canvas::SideEffect;
-use vt_units::{Params, WholeSequence, sequences_are_units};
+use vt_units::{Params, WholeSequence};
 
 impl Emu {
     // Does what `take_sequence` does for every sequence. A control sequence of one or two short parameters has
@@ -15,7 +15,6 @@ impl Emu {
         ensures ran { HasRun self.old b.now result self.new said.new }
         ensures count { result ≡ bytes_ahead self.old b.now }
     {
-        sequences_are_units();
         match self.pending.take_short_csi(self.canvas.mode(), b) {
             Some(brief) => {
                 self.canvas
@@ -32,7 +31,6 @@ impl Emu {
         ensures ran { HasRun self.old b.now result self.new said.new }
         ensures count { result ≡ bytes_ahead self.old b.now }
     {
-        sequences_are_units();
         match self.pending.take_escape(self.canvas.mode(), b) {
             Some(last) => {
                 self.canvas.escape(0, last, said);
@@ -48,7 +46,6 @@ impl Emu {
         ensures ran { HasRun self.old b.now result self.new said.new }
         ensures count { result ≡ bytes_ahead self.old b.now }
     {
-        sequences_are_units();
         match self.pending.take_long_sgr(self.canvas.mode(), b) {
             Some(longer) => {
                 said.clear();
@@ -67,7 +64,6 @@ impl Emu {
         ensures ran { HasRun self.old b.now result self.new said.new }
         ensures count { result ≡ bytes_ahead self.old b.now }
     {
-        sequences_are_units();
         let mut params = Params::new();
         match self
             .pending

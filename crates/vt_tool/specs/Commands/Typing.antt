@@ -14,7 +14,8 @@ use Rattle.scan_codes.specs.Laws.{events, rest}
 use Rattle.scan_codes.specs.Scan.{event_after, start_codes}
 use Rattle.scan_codes.specs.declared.key_event.KeyEvent.{KeyEvent}
 use Rattle.toml.specs.Data.{Members, get_member}
-use Rattle.vt_journal.specs.Hex.{hex_byte, hex_text}
+use Rattle.vt_base.specs.Digits.{hex_byte}
+use Rattle.vt_journal.specs.Hex.{hex_text}
 use Rattle.vt_journal.specs.Journal.{line_text}
 use Rattle.table_fields.specs.FaultCodes.{UNKNOWN_KEY}
 use Rattle.table_fields.specs.Checked.{check, fault, ◌>>=◌}

@@ -12,16 +12,15 @@ use Rattle.vt_events.specs.declared.event.Event.{Event}
 use Rattle.vt_events.specs.declared.event.Event.TheVariants as event
 use Rattle.vt_procs.specs.Callers.{is_opened}
 use Rattle.vt_procs.specs.declared.proc_start.ProcStart.{ProcStart}
-use Rattle.vt_procs.specs.declared.ticket.Ticket.TheVariants.{Active, Input}
 use Rattle.vt_canvas.specs.Change.{palette, resize, user_map}
 use Rattle.vt_canvas.specs.declared.out.Out.{Out}
-use Rattle.vt_switch.specs.Acts.{SwitchAct, Allocate, Release, Request, SetMode, Free, after}
+use Rattle.vt_switch.specs.Acts.{SwitchAct, Allocate, Request, SetMode, Free, after}
 use Rattle.vt_switch.specs.Calls.{free, without_console, is_held, names}
 use Rattle.vt_switch.specs.Display.{Display, fresh, or_fresh, owner_of}
 use Rattle.vt_switch.specs.Moments.{Core, core_after, is_live, marks, raise}
 use Rattle.vt_switch.specs.declared.console.Console.{Console}
 use Rattle.vt_switch.specs.declared.mark.Mark.{Mark}
-use Rattle.vt_world.proofs.for_laws.Quiet.{are_quiet, is_quiet_act, is_quiet_own, outs_quiet, scan_quiet, sent_quiet, wait_quiet}
+use Rattle.vt_world.proofs.for_laws.Quiet.{are_quiet, is_quiet_act, is_quiet_own, outs_quiet, row_quiet}
 use Rattle.vt_world.proofs.for_laws.Steps.{by_step}
 use Rattle.vt_world.specs.Deeds.{Deed, Asks, By, Clears, Own, OwnDeed, Alters, Raises, Starts, Writes, after_switch_act, apply_deeds, apply_deed, apply_own_deed, after_request}
 use Rattle.vt_world.specs.Heard.{without_marks, apply_mark, apply_marks}
@@ -33,7 +32,7 @@ use Rattle.vt_world.specs.Start.{start_world}
 use Rattle.vt_world.specs.State.{WorldState, HasTerminals, core}
 use Rattle.vt_world.specs.Step.{Outcome, step}
 use Rattle.vt_world.specs.Terminals.{new_terminal, said_of, terminal_at}
-use Rattle.vt_world.specs.Refusals.{Refusal, first_refusal, is_empty, is_in_use, mode_of, console_by_number, needs_console_or_0, needs_open, needs_right, refusal, target}
+use Rattle.vt_world.specs.Refusals.{Refusal, first_refusal, is_in_use, console_by_number, needs_console_or_0, needs_open, needs_right, refusal, target}
 use Rattle.vt_world.specs.Wanted.{wanted_in}
 use Rattle.key_tables.specs.Tables.{Tables}
 use Rattle.vt_world.proofs.Alters.{altered_alike}
@@ -194,8 +193,6 @@ disallocate_keeps w p fd n accepted has =
 -- the deeds of an event that nothing refuses
 row_keeps : (w : WorldState) (p : ℕ) (e : Event) → first_refusal (own_refusals w p e) ≡ None
     → HasTerminals w → HasTerminals (apply_deeds w (row w p e).deeds)
-row_keeps w p (event.Scan b) accepted has =
-    quiet_keeps w (row w p (event.Scan b)).deeds (scan_quiet w _ w.display.front b) has
 row_keeps w p (event.OpenCon n) accepted has =
     allocated_alike (console_by_number w n) w.rows w.cols w.display.consoles w.terminals has
 row_keeps w p (event.Activate fd n) accepted has =
@@ -206,12 +203,6 @@ row_keeps w p (event.Write fd b) accepted has =
     let said : List Out = said_of (terminal_at w.terminals c) b.bytes in
     quiet_keeps (apply_deed w (Own (Writes c b.bytes))) (flat_map (out_deeds c) said) (outs_quiet c said)
     (written_alike c b.bytes w.terminals ∙ has)
-row_keeps w p (event.WaitInput fd) accepted has =
-    quiet_keeps w (row w p (event.WaitInput fd)).deeds
-    (wait_quiet (not (is_empty w (target w p fd))) p (Input (target w p fd))) has
-row_keeps w p (event.WaitActive fd n) accepted has =
-    quiet_keeps w (row w p (event.WaitActive fd n)).deeds
-    (wait_quiet (n == w.display.front) p (Active n)) has
 row_keeps w p (event.Disallocate fd n) accepted has = disallocate_keeps w p fd n accepted has
 row_keeps w p (event.Resize fd rows cols) accepted has =
     altered_alike (target w p fd) (resize rows cols) w.terminals ∙ has
@@ -219,13 +210,8 @@ row_keeps w p (event.SetMap fd b) accepted has =
     altered_alike (target w p fd) (user_map (unwrap_or (words_in b.bytes) [])) w.terminals ∙ has
 row_keeps w p (event.SetPal fd b) accepted has =
     altered_alike (target w p fd) (palette (unwrap_or (colours_in b.bytes) [])) w.terminals ∙ has
-row_keeps w p (event.SetMode fd m wait r a f) accepted has =
-    acted_keeps w (SetMode (target w p fd) p (mode_of m wait r a f)) refl has
-row_keeps w p (event.RelDisp fd arg) accepted has =
-    acted_keeps w (Release (target w p fd) p arg) refl has
-row_keeps w p (event.Kill q s) accepted has =
-    quiet_keeps w (row w p (event.Kill q s)).deeds (sent_quiet (s == 9) q s) has
-row_keeps w p e accepted has = quiet_keeps w (row w p e).deeds refl has
+row_keeps w p e accepted has =
+    quiet_keeps w (row w p e).deeds (row_quiet w p e (λ n scanner. refl)) has
 
 pub step_keeps : (w : WorldState) (p : ℕ) (e : Event) → HasTerminals w
     → HasTerminals (step w p e).world

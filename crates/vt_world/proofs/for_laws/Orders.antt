@@ -1,37 +1,21 @@
 -- In no event a request comes before a release, an end or a signal that is raised without an act.
-use Rattle.std.proofs.Common.{◌≡◌, ℕ, Bool, true, false, cond, List, [], ◌∷◌, ◌++◌, filter, flat_map, Option, Some, None, refl}
-use Rattle.std.specs.List.{range_with_len}
-use Rattle.std.specs.Prelude.{unwrap_or, ◌&&◌, ◌||◌, ◌==◌, not}
-use Rattle.std.proofs.lemmas.Bool.{and_from, and_parts}
-use Rattle.key_machine.specs.declared.key_out.KeyOut.{KeyOut}
-use Rattle.key_machine.specs.declared.key_out.KeyOut.TheVariants as heard
-use Rattle.vt_base.specs.Keyboards.{keyboard_of}
-use Rattle.scan_codes.specs.Scan.{Scan, event_after}
-use Rattle.scan_codes.specs.declared.key_event.KeyEvent.{KeyEvent}
+use Rattle.std.proofs.Common.{◌≡◌, ℕ, Bool, true, false, List, [], ◌∷◌, ◌++◌, flat_map, Option, Some, None, refl, subst, sym}
+use Rattle.std.specs.List.{list_all}
+use Rattle.std.specs.Prelude.{◌&&◌, ◌||◌, not}
+use Rattle.std.proofs.lemmas.Bool.{and_from, and_parts, not-true}
 use Rattle.vt_events.specs.declared.event.Event.{Event}
 use Rattle.vt_events.specs.declared.event.Event.TheVariants as event
-use Rattle.vt_procs.specs.declared.ticket.Ticket.{Ticket}
-use Rattle.vt_procs.specs.declared.ticket.Ticket.TheVariants.{Active, Input}
 use Rattle.vt_canvas.specs.declared.out.Out.{Out}
 use Rattle.vt_canvas.specs.declared.out.Out.TheVariants as outs
-use Rattle.vt_switch.specs.Acts.{SwitchAct, End, SetKd}
+use Rattle.vt_switch.specs.Acts.{SwitchAct}
 use Rattle.vt_switch.specs.Moments.{is_ordered, is_request, settles}
+use Rattle.vt_world.proofs.for_laws.RowDeeds.{Composes, asks, row_is}
 use Rattle.vt_world.specs.Acts.{all_acts, request_of}
-use Rattle.vt_world.specs.Deeds.{Deed, Asks, By, Own, Puts, Raises, apply_deed}
-use Rattle.vt_world.specs.Inputs.{input_at}
+use Rattle.vt_world.specs.Deeds.{Deed, Asks, By, Own, Raises, apply_deed}
 use Rattle.vt_world.specs.Events.{row}
-use Rattle.vt_world.specs.Rows.{free_deeds, out_deeds, waits_unless}
+use Rattle.vt_world.specs.Rows.{out_deeds}
 use Rattle.vt_world.specs.State.{WorldState}
-use Rattle.vt_world.specs.Terminals.{said_of, terminal_at}
-use Rattle.vt_world.specs.Refusals.{is_empty, is_in_use, target}
-use Rattle.vt_world.specs.Typing.{ends_of, key_deeds, key_on, key_out_deeds, read_deeds, scanner_of, spawn_deeds, users}
 use Rattle.vt_world.specs.Wanted.{wanted_in}
-
--- the order in deeds: a deed that asks for a console stands for a request
-abbrev pub asks : Deed → Bool
-asks (By act) = is_request act
-asks (Asks wanted) = true
-asks (Own deed) = false
 
 -- what comes after no request
 abbrev pub ends : Deed → Bool
@@ -102,70 +86,23 @@ outs_ordered true c (outs.Lights lights ∷ said) = outs_ordered true c said
 outs_ordered false c (outs.Lights lights ∷ said) = outs_ordered false c said
 outs_ordered asked c (outs.Bell ∷ said) = outs_ordered asked c said
 
-frees_ordered : (consoles : List ℕ) → in_order false (flat_map free_deeds consoles) ≡ true
-frees_ordered [] = refl
-frees_ordered (c ∷ consoles) = frees_ordered consoles
+append_ordered : (a b : List Deed) → list_all (λ deed. not (asks deed)) a ≡ true → in_order false b ≡ true
+    → in_order false (a ++ b) ≡ true
+append_ordered [] b free ordered = ordered
+append_ordered (deed ∷ a) b free ordered =
+    let parts = and_parts (not (asks deed)) (list_all (λ deed. not (asks deed)) a) free in
+    subst (λ asked. in_order asked (a ++ b) ≡ true) (sym (not-true (asks deed) parts.0))
+    (append_ordered a b parts.1 ordered)
 
-disallocate_ordered : (all : Bool) (n : ℕ) (consoles : List ℕ)
-    → in_order false (cond all (flat_map free_deeds consoles) (free_deeds n)) ≡ true
-disallocate_ordered true n consoles = frees_ordered consoles
-disallocate_ordered false n consoles = refl
-
-sent_ordered : (kills : Bool) (p signal : ℕ)
-    → in_order false (cond kills (By (End p)) (Own (Raises p signal)) ∷ []) ≡ true
-sent_ordered true p signal = refl
-sent_ordered false p signal = refl
-
-spawn_ordered : (accepter : Option (ℕ × ℕ)) → in_order false (spawn_deeds accepter) ≡ true
-spawn_ordered None = refl
-spawn_ordered (Some accepter) = sent_ordered (accepter.1 == 9) accepter.0 accepter.1
-
-ends_ordered : (processes : List ℕ) (n : ℕ)
-    → in_order false (ends_of processes (By (SetKd n false) ∷ [])) ≡ true
-ends_ordered [] n = refl
-ends_ordered (p ∷ processes) n = ends_ordered processes n
-
-key_ordered : (w : WorldState) (n : ℕ) (out : KeyOut)
-    → in_order false (key_out_deeds w n out) ≡ true
-key_ordered w n (heard.Bytes bytes) = refl
-key_ordered w n (heard.Switch m) = refl
-key_ordered w n heard.Last = refl
-key_ordered w n heard.Next = refl
-key_ordered w n heard.Prev = refl
-key_ordered w n heard.Spawn = spawn_ordered w.callers.accepter
-key_ordered w n heard.Attention = ends_ordered (users w n) n
-key_ordered w n heard.Nothing = refl
-
-typed_ordered : (w : WorldState) (k n : ℕ) (e : Option KeyEvent)
-    → in_order false (key_deeds w k n e) ≡ true
-typed_ordered w k n None = refl
-typed_ordered w k n (Some e) = key_ordered w n (key_on w k n e).out
-
-read_ordered : (w : WorldState) (k n b : ℕ) → in_order false (read_deeds w k n b) ≡ true
-read_ordered w k n b =
-    let scanner : Scan = scanner_of w.board.scanners k in
-    typed_ordered w k n (event_after scanner.codes scanner.bytes b)
-
-scan_ordered : (raw : Bool) (w : WorldState) (k n b : ℕ)
-    → in_order false (cond raw (Own (Puts n (b ∷ [])) ∷ read_deeds w k n b) (read_deeds w k n b)) ≡ true
-scan_ordered true w k n b = read_ordered w k n b
-scan_ordered false w k n b = read_ordered w k n b
-
-wait_ordered : (there : Bool) (p : ℕ) (ticket : Ticket)
-    → in_order false (waits_unless there p ticket).deeds ≡ true
-wait_ordered true p ticket = refl
-wait_ordered false p ticket = refl
+composes : Composes (λ deeds. in_order false deeds ≡ true)
+composes = record {
+  nothing = refl;
+  typed = λ deed typed. refl;
+  joined = λ a b free first. append_ordered a b free;
+  said = outs_ordered false;
+}
 
 -- no row has a request before any of these
 pub row_ordered : (w : WorldState) (p : ℕ) (e : Event) → in_order false (row w p e).deeds ≡ true
-row_ordered w p (event.Scan b) =
-    scan_ordered ((input_at w.inputs w.display.front).keys.mode == 0) w (unwrap_or (keyboard_of p) 0) w.display.front b
-row_ordered w p (event.Write fd b) =
-    outs_ordered false (target w p fd) (said_of (terminal_at w.terminals (target w p fd)) b.bytes)
-row_ordered w p (event.WaitInput fd) =
-    wait_ordered (not (is_empty w (target w p fd))) p (Input (target w p fd))
-row_ordered w p (event.WaitActive fd n) = wait_ordered (n == w.display.front) p (Active n)
-row_ordered w p (event.Disallocate fd n) =
-    disallocate_ordered (n == 0) n (filter (λ c. not (is_in_use w c)) (range_with_len 1 63))
-row_ordered w p (event.Kill q s) = sent_ordered (s == 9) q s
-row_ordered w p e = refl
+row_ordered w p event.Exit = refl
+row_ordered w p e = row_is (λ deeds. in_order false deeds ≡ true) composes w p e (λ n scanner. refl)

@@ -29,7 +29,7 @@ use Rattle.vt_world.specs.Deeds.{Deed, By, Asks, Own, OwnDeed, Puts, Opens, Shut
 use Rattle.vt_world.specs.Events.{Rule, on, rule}
 use Rattle.vt_world.specs.Heard.{apply_mark, apply_marks, callers_after_mark, without_marks}
 use Rattle.vt_world.specs.Inputs.{comes, input_at}
-use Rattle.vt_world.specs.Refusals.{Refusal, caller, common_refusals, ends_wait, first_refusal, has_ticket, is_process, is_signal, may_make, needs_console_or_0, needs_sense, refusal}
+use Rattle.vt_world.specs.Refusals.{Refusal, common_refusals, ends_wait, first_refusal, has_ticket, is_process, is_signal, may_make, needs_console_or_0, needs_sense, refusal}
 use Rattle.vt_world.specs.Rights.{RightsAreOwn, admitted}
 use Rattle.vt_world.specs.Rows.{EventRow, does, free_deeds, row_of, tells}
 use Rattle.vt_world.specs.State.{WorldState, core}

@@ -1,7 +1,6 @@
 -- The tape of a console by deeds: after an event it has the items that the event adds.
-use Rattle.std.proofs.Common.{◌≡◌, ℕ, ◌⊎◌, inl, inr, Bool, true, false, cond, List, [], ◌∷◌, ◌++◌, filter, flat_map, map, Option, Some, None, is_some, refl, sym, ap, subst, ◌∙◌, append-nil}
-use Rattle.std.specs.List.{range_with_len}
-use Rattle.std.specs.Prelude.{◌==◌, not, option_map, unwrap_or}
+use Rattle.std.proofs.Common.{◌≡◌, ℕ, ◌⊎◌, inl, inr, Bool, true, false, cond, List, [], ◌∷◌, ◌++◌, flat_map, map, Option, Some, None, is_some, refl, sym, ap, subst, ◌∙◌, append-nil}
+use Rattle.std.specs.Prelude.{◌==◌, option_map, unwrap_or}
 use Rattle.std.proofs.lemmas.Bool.{and_parts, false≢true}
 use Rattle.call_bytes.specs.Colours.{colours_in}
 use Rattle.call_bytes.specs.Words.{words_in}
@@ -9,18 +8,18 @@ use Rattle.vt_events.specs.declared.event.Event.{Event}
 use Rattle.vt_events.specs.declared.event.Event.TheVariants as event
 use Rattle.vt_events.specs.declared.reply.Reply.{Reply}
 use Rattle.vt_events.specs.declared.reply.Reply.TheVariants as reply
-use Rattle.vt_procs.specs.declared.ticket.Ticket.TheVariants.{Active, Input}
 use Rattle.vt_screen.specs.Tape.{Taped, byte, change}
 use Rattle.vt_canvas.specs.Change.{palette, resize, user_map}
 use Rattle.vt_canvas.specs.declared.out.Out.{Out}
-use Rattle.vt_world.proofs.for_laws.Quiet.{are_quiet, is_quiet_act, is_quiet_own, outs_quiet, scan_quiet, sent_quiet, wait_quiet}
+use Rattle.vt_world.proofs.for_laws.Quiet.{are_quiet, is_quiet_act, is_quiet_own, outs_quiet, row_quiet}
+use Rattle.vt_world.proofs.for_laws.RowDeeds.{frees_are}
 use Rattle.vt_world.specs.Deeds.{Deed, Alters, Asks, By, Clears, Own, OwnDeed, Starts, Writes}
 use Rattle.vt_world.specs.Events.{row}
-use Rattle.vt_world.specs.Rows.{free_deeds, out_deeds}
+use Rattle.vt_world.specs.Rows.{out_deeds}
 use Rattle.vt_world.specs.State.{WorldState}
 use Rattle.vt_world.specs.Tapes.{items_of, tape_after, unless_refused}
 use Rattle.vt_world.specs.Terminals.{said_of, terminal_at}
-use Rattle.vt_world.specs.Refusals.{is_empty, is_in_use, console_by_number, target}
+use Rattle.vt_world.specs.Refusals.{console_by_number, target}
 
 abbrev pub Tape : Type 0
 Tape = Option (List Taped)
@@ -92,17 +91,6 @@ cleared_if : (b : Bool) (tape new : Tape) → Grows [] tape new → Grows [] tap
 cleared_if true tape new grows = inl refl
 cleared_if false tape new grows = grows
 
-frees_grow : (c : ℕ) (tape new : Tape) (consoles : List ℕ) → Grows [] tape new
-    → Grows [] tape (tape_of_deeds c new (flat_map free_deeds consoles))
-frees_grow c tape new [] grows = grows
-frees_grow c tape new (n ∷ consoles) grows =
-    frees_grow c tape (cond (n == c) None new) consoles (cleared_if (n == c) tape new grows)
-
-disallocate_grows : (all : Bool) (c : ℕ) (tape : Tape) (n : ℕ) (consoles : List ℕ)
-    → Grows [] tape (tape_of_deeds c tape (cond all (flat_map free_deeds consoles) (free_deeds n)))
-disallocate_grows true c tape n consoles = frees_grow c tape tape consoles (stays tape)
-disallocate_grows false c tape n consoles = cleared_if (n == c) tape tape (stays tape)
-
 quiet_grows : (c : ℕ) (tape : Tape) (deeds : List Deed) → are_quiet deeds ≡ true
     → Grows [] tape (tape_of_deeds c tape deeds)
 quiet_grows c tape deeds quiet = subst (Grows [] tape) (sym (leaves c tape deeds quiet)) (stays tape)
@@ -110,8 +98,6 @@ quiet_grows c tape deeds quiet = subst (Grows [] tape) (sym (leaves c tape deeds
 -- the tape after the deeds of an event's row
 row_grows : (c : ℕ) (tape : Tape) (w : WorldState) (p : ℕ) (e : Event)
     → Grows (items_of w p c e) tape (tape_of_deeds c tape (row w p e).deeds)
-row_grows c tape w p (event.Scan b) =
-    quiet_grows c tape (row w p (event.Scan b)).deeds (scan_quiet w _ w.display.front b)
 row_grows c tape w p (event.OpenCon n) = begins_if (console_by_number w n == c) tape
 row_grows c tape w p (event.Activate fd n) = begins_if (n == c) tape
 row_grows c tape w p (event.Write fd b) =
@@ -122,23 +108,18 @@ row_grows c tape w p (event.Write fd b) =
     subst (Grows (cond (n == c) items []) tape)
     (sym (leaves c new (flat_map (out_deeds n) said) (outs_quiet n said)))
     (grows_if (n == c) items tape)
-row_grows c tape w p (event.WaitInput fd) =
-    quiet_grows c tape (row w p (event.WaitInput fd)).deeds
-    (wait_quiet (not (is_empty w (target w p fd))) p (Input (target w p fd)))
-row_grows c tape w p (event.WaitActive fd n) =
-    quiet_grows c tape (row w p (event.WaitActive fd n)).deeds
-    (wait_quiet (n == w.display.front) p (Active n))
 row_grows c tape w p (event.Disallocate fd n) =
-    disallocate_grows (n == 0) c tape n (filter (λ k. not (is_in_use w k)) (range_with_len 1 63))
+    frees_are (λ deeds. (new : Tape) → Grows [] tape new → Grows [] tape (tape_of_deeds c new deeds))
+    (λ new grows. grows)
+    (λ k deeds later new grows. later (cond (k == c) None new) (cleared_if (k == c) tape new grows))
+    w n tape (stays tape)
 row_grows c tape w p (event.Resize fd rows cols) =
     grows_if (target w p fd == c) (change (resize rows cols) ∷ []) tape
 row_grows c tape w p (event.SetMap fd b) =
     grows_if (target w p fd == c) (change (user_map (unwrap_or (words_in b.bytes) [])) ∷ []) tape
 row_grows c tape w p (event.SetPal fd b) =
     grows_if (target w p fd == c) (change (palette (unwrap_or (colours_in b.bytes) [])) ∷ []) tape
-row_grows c tape w p (event.Kill q s) =
-    quiet_grows c tape (row w p (event.Kill q s)).deeds (sent_quiet (s == 9) q s)
-row_grows c tape w p e = stays tape
+row_grows c tape w p e = quiet_grows c tape (row w p e).deeds (row_quiet w p e (λ n scanner. refl))
 
 -- a row that adds to a tape isn't answered by an error
 nothing_added : (answer : Reply) → [] ≡ unless_refused answer []

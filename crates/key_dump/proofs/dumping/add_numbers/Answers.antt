@@ -9,8 +9,8 @@ loop-t-init c = numbered_start (exists_in c.args.tables.now) c.args.text.now.byt
 
 pub loop-t-preserved-then-exists : goal.loop-t-preserved-then-exists
 loop-t-preserved-then-exists c =
-    numbered_yes (exists_in c.args.tables.now) c.args.text.now.bytes c.loop-t.text.bytes c.add_comma.new.text.bytes c.add_number.new.text.bytes c.loop-t.some c.loop-t.t c.loop-t.invariant
-    (sym c.exists.ensures.value ∙ c.if-exists.true) c.in_ok-add_comma.ensures c.in_ok-add_number.ensures
+    numbered_yes (exists_in c.args.tables.now) c.args.text.now.bytes c.loop-t.text.bytes c.add_comma.new.text.bytes c.add_decimal.new.self.bytes c.loop-t.some c.loop-t.t c.loop-t.invariant
+    (sym c.exists.ensures.value ∙ c.if-exists.true) c.in_ok-add_comma.ensures c.in_ok-add_decimal.ensures
 
 pub loop-t-preserved : goal.loop-t-preserved
 loop-t-preserved c =

@@ -6,4 +6,4 @@ pub returns : goal.returns
 returns c =
     rw (← entry_text c.args.t c.args.c c.args.action c.as_bytes.result.now (c.as_bytes.ensures.value ∙ c.deref.ensures.0 ∙ c.name_of.ensures))
     (rw (c.in_ok-add-4.ensures, c.in_ok-add-3.ensures, c.in_ok-add-2.ensures)
-    (rw (c.in_ok-add_number.ensures, c.in_ok-add.ensures, c.in_ok-add_modifiers.ensures) (simp append_assoc)))
+    (rw (c.in_ok-add_decimal.ensures, c.from.ensures, c.in_ok-add.ensures, c.in_ok-add_modifiers.ensures) (simp append_assoc)))

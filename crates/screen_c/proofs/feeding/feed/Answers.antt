@@ -2,6 +2,7 @@ use Rattle.std.proofs.Common.{◌≡◌, ℕ, ◌+◌, ◌++◌, List, ap, sym, 
 use Rattle.screen_c.proofs.Pieces.{count_more, outs_more, places_more, room_more, screen_more}
 use Rattle.screen_c.specs.Shown.{c_out}
 use Rattle.screen_c.specs.declared.vt_out.VtOut.{VtOut}
+use Rattle.vt_screen.proofs.Stated.{any_cut}
 use Rattle.vt_screen.specs.Run.{outs_of_option, outs_of_run}
 use Rattle.vt_canvas.specs.declared.out.Out.{Out}
 use Rattle.screen_c.proofs.feeding.feed.Goals as goal
@@ -19,7 +20,7 @@ loop-n-preserved c =
     let all : List Out = outs_of_run c.args.emu.now (take (at + m) text) in
     let whole : before ++ more ≡ all =
     ap (λ (xs : List Out). before ++ xs) c.write_until-at.ensures.effect
-    ∙ outs_more c.any_cut.ensures c.args.emu.now c.loop-n.emu at m text c.loop-n.invariant.screen in
+    ∙ outs_more any_cut c.args.emu.now c.loop-n.emu at m text c.loop-n.invariant.screen in
     record {
       within = omega (arith, c.write_until-at.ensures.within, length-drop at text);
       room =
@@ -32,9 +33,9 @@ loop-n-preserved c =
       size = c.put_effect-n.ensures.size ∙ c.loop-n.invariant.size;
       screen =
           c.write_until-at.ensures.screen
-          ∙ screen_more c.any_cut.ensures c.args.emu.now c.loop-n.emu at m text c.loop-n.invariant.screen;
+          ∙ screen_more any_cut c.args.emu.now c.loop-n.emu at m text c.loop-n.invariant.screen;
       first =
-          room_more c.any_cut.ensures c.args.emu.now c.loop-n.emu at m (length start) text c.loop-n.invariant.screen
+          room_more any_cut c.args.emu.now c.loop-n.emu at m (length start) text c.loop-n.invariant.screen
           (omega (arith, c.loop-n-test.true, c.loop-n.invariant.count, c.loop-n.invariant.size)) c.loop-n.invariant.first
           c.write_until-at.ensures.first;
       count = count_more before more all n k c.loop-n.invariant.count c.put_effect-n.ensures.count whole;

@@ -12,6 +12,7 @@ use Rattle.screen_c.specs.declared.vt_out.VtOut.{VtOut}
 use Rattle.vt_canvas.specs.declared.out.Out.{Out}
 use Rattle.vt_canvas.specs.Screen.{Screen}
 use Rattle.vt_cells.specs.declared.cell.Cell.{Cell}
+use Rattle.vt_screen.proofs.Stated.{any_cut, any_row_cut}
 use Rattle.vt_screen.specs.Falling.{rows_of_run}
 use Rattle.vt_screen.specs.Run.{outs_of_option, outs_of_run}
 use Rattle.vt_units.specs.Run.{Reached}
@@ -52,12 +53,12 @@ loop-n-preserved c =
     let all : List Out = outs_of_run c.args.emu.now (take (at + m) text) in
     let whole : before ++ more ≡ all =
     ap (λ (xs : List Out). before ++ xs) c.write_until_row-at.ensures.effect
-    ∙ outs_more c.any_cut.ensures c.args.emu.now c.loop-n.emu at m text c.loop-n.invariant.screen in
+    ∙ outs_more any_cut c.args.emu.now c.loop-n.emu at m text c.loop-n.invariant.screen in
     let above : List (List Cell) = rows_of_run c.args.emu.now (take at text) in
     let fell : List (List Cell) = c.write_until_row-at.new.rows in
     let out : above ++ fell ≡ rows_of_run c.args.emu.now (take (at + m) text) =
     ap (λ (rows : List (List Cell)). above ++ rows) c.write_until_row-at.ensures.rows
-    ∙ rows_more c.any_row_cut.ensures c.args.emu.now c.loop-n.emu at m text c.loop-n.invariant.screen in
+    ∙ rows_more any_row_cut c.args.emu.now c.loop-n.emu at m text c.loop-n.invariant.screen in
     record {
       within = omega (arith, c.write_until_row-at.ensures.within, length-drop at text);
       full =
@@ -70,9 +71,9 @@ loop-n-preserved c =
       size = c.put_effect-n.ensures.size ∙ c.loop-n.invariant.size;
       screen =
           c.write_until_row-at.ensures.screen
-          ∙ screen_more c.any_cut.ensures c.args.emu.now c.loop-n.emu at m text c.loop-n.invariant.screen;
+          ∙ screen_more any_cut c.args.emu.now c.loop-n.emu at m text c.loop-n.invariant.screen;
       first =
-          room_more c.any_cut.ensures c.args.emu.now c.loop-n.emu at m (length start) text c.loop-n.invariant.screen
+          room_more any_cut c.args.emu.now c.loop-n.emu at m (length start) text c.loop-n.invariant.screen
           (omega (arith, c.loop-n-test.true, c.loop-n.invariant.count, c.loop-n.invariant.size)) c.loop-n.invariant.first
           c.write_until_row-at.ensures.first;
       count = count_more before more all n k c.loop-n.invariant.count c.put_effect-n.ensures.count whole;
@@ -81,7 +82,7 @@ loop-n-preserved c =
           ∙ places_more before more all start c.loop-n.places n c.loop-n.invariant.count c.loop-n.invariant.places whole
           ∙ ap (λ (j : ℕ). map c_out all ++ drop (n + j) start) (sym c.put_effect-n.ensures.count);
       room =
-          rows_room_more c.any_row_cut.ensures c.args.emu.now c.loop-n.emu at m c.args.most text c.loop-n.invariant.screen
+          rows_room_more any_row_cut c.args.emu.now c.loop-n.emu at m c.args.most text c.loop-n.invariant.screen
           (omega (arith, c.if-left-ge2.true, c.loop-n.invariant.rows)) c.loop-n.invariant.room
           c.write_until_row-at.ensures.level;
       rows =

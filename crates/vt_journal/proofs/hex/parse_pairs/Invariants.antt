@@ -1,6 +1,6 @@
 use Rattle.std.proofs.Common.{◌≡◌, ◌<◌, ◌+◌, ◌*◌, ◌/◌, ◌^◌, take, length}
 use Rattle.std.specs.List.{All, flat_map}
-use Rattle.vt_journal.specs.Hex.{hex_byte}
+use Rattle.vt_base.specs.Digits.{hex_byte}
 use Rattle.vt_journal.proofs.hex.parse_pairs.Given as goal
 
 abbrev pub invariant-loop-i : goal.invariant-loop-i

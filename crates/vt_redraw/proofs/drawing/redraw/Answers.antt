@@ -1,5 +1,5 @@
 use Rattle.std.proofs.Common.{◌≤◌, List, ℕ, length, sym, subst}
-use Rattle.vt_redraw.proofs.Stated.{redraws_are_short}
+use Rattle.vt_redraw.proofs.Stated.{redraws_are_short, screens_redraw-screens}
 use Rattle.vt_redraw.specs.Lengths.{redraw_most}
 use Rattle.vt_redraw.specs.Redraw.{Redraws}
 use Rattle.vt_redraw.proofs.drawing.redraw.Goals as goal
@@ -8,7 +8,7 @@ pub returns-clause-again : goal.returns-clause-again
 returns-clause-again c =
     λ other whole size.
     subst (λ (text : List ℕ). Redraws c.args.emu.now.state other text) (sym c.in_ok-text.ensures)
-    (c.screens_redraw.ensures.screens c.args.emu.now.state other c.stays_stored.ensures whole size c.requires)
+    (screens_redraw-screens c.args.emu.now.state other c.stays_stored.ensures whole size c.requires)
 
 pub returns-clause-short : goal.returns-clause-short
 returns-clause-short c =

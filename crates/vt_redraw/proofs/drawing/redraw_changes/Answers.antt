@@ -1,5 +1,5 @@
 use Rattle.std.proofs.Common.{◌≤◌, List, ℕ, length, sym, subst, ap, ◌∙◌}
-use Rattle.vt_redraw.proofs.Stated.{redraws_are_short}
+use Rattle.vt_redraw.proofs.Stated.{redraws_are_short, screens_redraw-changes}
 use Rattle.vt_redraw.specs.Lengths.{redraw_most}
 use Rattle.vt_grid.specs.Grid.{GridView}
 use Rattle.vt_redraw.specs.Redraw.{IsSameSize, Redraws, changes_of}
@@ -12,7 +12,7 @@ returns-clause-again c =
     subst (λ (g : GridView). IsSameSize g c.args.emu.now.state.grid) (sym same) c.requires.size in
     subst (λ (text : List ℕ). Redraws c.args.emu.now.state other text)
     (ap (λ (g : GridView). changes_of g c.args.emu.now.state) same ∙ sym c.in_ok-text.ensures)
-    (c.screens_redraw.ensures.changes c.args.emu.now.state other c.stays_stored.ensures whole size c.requires.redrawable)
+    (screens_redraw-changes c.args.emu.now.state other c.stays_stored.ensures whole size c.requires.redrawable)
 
 pub returns-clause-short : goal.returns-clause-short
 returns-clause-short c =

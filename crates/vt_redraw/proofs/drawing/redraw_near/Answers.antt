@@ -1,5 +1,6 @@
 use Rattle.std.proofs.Common.{IfOk, ap, subst, sym, ◌∙◌}
 use Rattle.vt_canvas.specs.Screen.{IsWhole, Screen}
+use Rattle.vt_redraw.proofs.Stated.{near_is_drawn-exact}
 use Rattle.vt_redraw.specs.Redraw.{IsSameSize, Redraws}
 use Rattle.vt_redraw.proofs.drawing.redraw_near.Goals as goal
 
@@ -9,7 +10,7 @@ returns-then-redrawable-clause-again c =
     subst
     (λ (t : Screen).
     IfOk c.redraw.result (λ text. (other : Screen) → IsWhole other → IsSameSize other.grid s.grid → Redraws t other text.bytes))
-    (sym (c.near_is_drawn.ensures.exact s (sym c.redrawable.ensures ∙ c.if-redrawable.true))) c.redraw.ensures.again
+    (sym (near_is_drawn-exact s (sym c.redrawable.ensures ∙ c.if-redrawable.true))) c.redraw.ensures.again
 
 pub returns-clause-again : goal.returns-clause-again
 returns-clause-again c =

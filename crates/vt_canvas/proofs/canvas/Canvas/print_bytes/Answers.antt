@@ -2,6 +2,8 @@ use Rattle.std.proofs.Common.{◌<◌, ℕ, List, length, ◌∙◌, arith}
 use Rattle.std.proofs.lemmas.Bool.Decides.{nat_tests}
 use Rattle.vt_canvas.proofs.Spread.{put_narrow}
 use Rattle.vt_canvas.specs.Screen.{Screen}
+use Rattle.vt_cells.proofs.Stated.{columns_are_few-most}
+use Rattle.vt_grid.proofs.Stated.{stretches_join}
 use Rattle.vt_canvas.proofs.canvas.Canvas.print_bytes.Goals as goal
 
 pub returns : goal.returns
@@ -12,6 +14,6 @@ returns c =
     let room_is = c.room.ensures.room in
     let more : 0 < c.room.result = omega (arith, c.requires.some, room_is) in
     c.put_bytes.ensures
-    ∙ put_narrow c.stretches_join.ensures c.columns_are_few.ensures.most bytes s c.requires.narrow c.room.ensures.whole some
+    ∙ put_narrow stretches_join columns_are_few-most bytes s c.requires.narrow c.room.ensures.whole some
     (c.room.ensures.unwrapped more) (c.room.ensures.closed more)
     (omega (arith, c.requires.room, room_is, c.room.ensures.fits))

@@ -2,6 +2,8 @@ use Rattle.std.proofs.Common.{◌≡◌, ◌<◌, ◌≤◌, ℕ, List, length, 
 use Rattle.vt_canvas.proofs.Spread.{put_cells_of_characters}
 use Rattle.vt_canvas.specs.Printing.{cells_of_characters}
 use Rattle.vt_canvas.specs.Screen.{Screen}
+use Rattle.vt_cells.proofs.Stated.{columns_are_few-most}
+use Rattle.vt_grid.proofs.Stated.{stretches_join}
 use Rattle.vt_canvas.proofs.canvas.Canvas.print_spread.Goals as goal
 
 pub returns-clause-printed : goal.returns-clause-printed
@@ -16,5 +18,5 @@ returns-clause-printed c =
     omega (arith, ap length c.as_slice.ensures.codes, c.fitting_prefix-count.ensures.most, c.min.ensures) in
     let more : 0 < c.room.result = omega (arith, some, short) in
     c.put_codes.ensures
-    ∙ put_cells_of_characters c.stretches_join.ensures c.columns_are_few.ensures.most front cells s is c.room.ensures.whole some
+    ∙ put_cells_of_characters stretches_join columns_are_few-most front cells s is c.room.ensures.whole some
     (c.room.ensures.unwrapped more) (c.room.ensures.closed more) (omega (arith, short, c.room.ensures.fits))

@@ -13,6 +13,7 @@ use Rattle.vt_journal.specs.Log.{Logged}
 use Rattle.vt_journal.specs.Room.{IsWithin}
 use Rattle.vt_journal.specs.declared.full.Full.{Full}
 use Rattle.vt_journal.specs.declared.limits.Limits.{Limits}
+use Rattle.vt_world.proofs.Stated.{screens_are_tapes-screens}
 use Rattle.vt_hub.proofs.hub.Hub.close.Goals as goal
 
 pub close-shared-requires-clause-all : goal.close-shared-requires-clause-all
@@ -43,4 +44,4 @@ returns g c =
     c.s.view_is
     (whole start most hub c.s.inside.stands v s c.sound.ensures c.close-shared.ensures c.parts-world.result.0 l
     c.parts-world.result.2 c.parts-world.ensures.world c.parts-world.ensures.log
-    c.parts-world.ensures.stop within c.s.invariant.made c.screens_are_tapes.ensures.screens)
+    c.parts-world.ensures.stop within c.s.invariant.made screens_are_tapes-screens)

@@ -4,6 +4,7 @@ use Rattle.vt_hub.specs.Histories.{made_by}
 use Rattle.vt_hub.specs.Shared.{SharedView, shared_view}
 use Rattle.vt_hub.specs.Waiters.{AreEnded, AreOpen, has_process}
 use Rattle.vt_hub.specs.declared.state.State.{State}
+use Rattle.vt_world.proofs.Stated.{legal_grows-entered, sizes_stay, tickets_are_called}
 use Rattle.vt_world.specs.History.{IsEntryOf}
 use Rattle.vt_world.specs.State.{WorldState, is_waiting}
 use Rattle.vt_world.specs.Step.{HasOutcome, step}
@@ -33,8 +34,8 @@ invariant_of-self g c =
     subst (λ (x : WorldState). HasOutcome (step x c.args.caller c.args.event.now) w.world c.step_with-reply.result)
     (ap (λ (s : State). s.world) given) c.step_with-reply.ensures.step in
     enters g.J.Opening.start g.J.Opening.limits v w c.args.caller c.args.seq c.args.event.now
-    c.step_with-reply.result entry of stepped c.self.invariant c.legal_grows.ensures.entered
-    c.sizes_stay.ensures c.tickets_are_called.ensures
+    c.step_with-reply.result entry of stepped c.self.invariant legal_grows-entered
+    sizes_stay tickets_are_called
     (ap (λ (x : SharedView). is_waiting x.world c.args.caller) c.self.view_is ∙ c.requires.free)
     (c.requires.number
     ∙ ap (λ (x : SharedView). length (made_by c.args.caller x.log.entries)) (sym c.self.view_is))
@@ -66,7 +67,7 @@ returns g c =
     let stood : AreOpen v.world old =
     subst (λ (s : State). AreOpen v.world s.waits.bits) (sym given) c.self.invariant.waits in
     let stand : AreOpen after new =
-    open_after c.tickets_are_called.ensures v.world after c.args.caller c.args.event.now c.step_with-reply.result
+    open_after tickets_are_called v.world after c.args.caller c.args.event.now c.step_with-reply.result
     stepped old new stood c.after-waits.ensures in (
       record {
         entry = entry;

@@ -18,7 +18,7 @@ loop-caller-preserved c =
     ∙ range_at 1 64 i q c.loop-caller-test.true ∙ omega arith in
     look_on (λ p. true) (λ p. true) 0 i c.loop-caller-test.true old (has_process c.and-woken.result.bits)
     c.loop-caller.invariant
-    (λ p. c.and-woken.ensures p ∙ ap (λ (n : ℕ). p % 64 == n % 64 || old p) at)
+    (λ p. c.and-woken.ensures p ∙ ap (λ (n : ℕ). p % 64 == n % 64 || old p) (c.ring-rung.ensures ∙ (c.from.ensures ∙ (c.get.ensures.same ∙ at))))
 
 or-true : (b : Bool) → (b || true) ≡ true
 or-true true = refl

@@ -1,4 +1,4 @@
-use Rattle.std.proofs.Common.{◌==◌, ◌%◌, ap, ◌∙◌}
+use Rattle.std.proofs.Common.{◌==◌, ◌%◌, ◌^◌, ap, ◌∙◌}
 use Rattle.std.specs.Int.{bit_at}
 use Rattle.std.specs.Int.RustNames.{bit_or}
 use Rattle.vt_hub.proofs.Bits.{with_mask}

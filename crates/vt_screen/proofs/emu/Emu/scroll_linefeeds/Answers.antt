@@ -7,6 +7,7 @@ use Rattle.vt_screen.proofs.FeedRuns.{behind_some, feeds_run}
 use Rattle.vt_canvas.specs.Cursor.{newlines}
 use Rattle.vt_screen.specs.Run.{run_from, with_outs}
 use Rattle.vt_canvas.specs.Screen.{Screen, mode_of}
+use Rattle.vt_units.proofs.Stated.{controls_are_units}
 use Rattle.vt_units.specs.Bytes.{is_control}
 use Rattle.vt_units.specs.Reading.{is_empty}
 use Rattle.vt_units.specs.Rest.{Rest, fresh}
@@ -36,6 +37,6 @@ returns c =
     behind_some bytes (mode_of s) rest some ∙ ap fresh (sym c.mode.ensures) ∙ sym left in
     let ran : run_from c.args.self.now bytes ≡ with_outs [] (make_reached c.scroll.new.self c.take_control.new.self) =
     ap (λ (r : Reached Screen). run_from r bytes) (sym c.self.view_is)
-    ∙ feeds_run c.controls_are_units.ensures bytes s rest c.line_feeds-count.ensures.feeds nothing
+    ∙ feeds_run controls_are_units bytes s rest c.line_feeds-count.ensures.feeds nothing
     ∙ (λ i. with_outs [] (make_reached (drawn i) (behind i))) in
     (c.line_feeds-count.ensures.within, ran, quiet_run c.args.self.now text n _ ran)

@@ -2,6 +2,7 @@ use Rattle.std.proofs.Common.{subst, ap, ◌∙◌}
 use Rattle.vt_screen.proofs.Sequences.{sequence_run}
 use Rattle.vt_screen.specs.Run.{HasRun}
 use Rattle.vt_canvas.specs.Screen.{Screen}
+use Rattle.vt_units.proofs.Stated.{sequences_are_units}
 use Rattle.vt_units.specs.declared.unit.Unit.TheVariants.{Esc}
 use Rattle.vt_units.specs.Rest.{Rest}
 use Rattle.vt_units.specs.Run.{Reached, make_reached}
@@ -9,7 +10,7 @@ use Rattle.vt_screen.proofs.emu.Emu.take_escape.Goals as goal
 
 pub returns-in-Some-clause-ran : goal.returns-in-Some-clause-ran
 returns-in-Some-clause-ran c =
-    sequence_run c.sequences_are_units.ensures c.args.b.now c.args.self.now c.self.inside.canvas c.escape.new.self
+    sequence_run sequences_are_units c.args.b.now c.args.self.now c.self.inside.canvas c.escape.new.self
     c.self.inside.pending c.take_escape.new.self c.mode.result (record { unit = Esc 0 c.in-Some.last; count = 2 }) c.escape.new.said
     c.self.view_is c.mode.ensures c.in-Some.ensures.sequence c.in-Some.ensures.rest c.escape.ensures
 

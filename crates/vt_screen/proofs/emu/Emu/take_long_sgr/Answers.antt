@@ -3,6 +3,7 @@ use Rattle.vt_screen.proofs.Sequences.{sequence_run}
 use Rattle.vt_screen.specs.Run.{HasRun}
 use Rattle.vt_canvas.specs.Screen.{Screen}
 use Rattle.vt_canvas.specs.declared.out.Out.{Out}
+use Rattle.vt_units.proofs.Stated.{sequences_are_units}
 use Rattle.vt_units.specs.ShortSequences.{sgr_in}
 use Rattle.vt_units.specs.Rest.{Rest}
 use Rattle.vt_units.specs.Run.{Reached, make_reached}
@@ -12,7 +13,7 @@ pub returns-in-Some-clause-ran : goal.returns-in-Some-clause-ran
 returns-in-Some-clause-ran c =
     subst (λ (said : Option Out). HasRun c.args.self.now c.args.b.now c.in-Some.longer.count (make_reached c.dispatch_long_sgr.new.self c.take_long_sgr.new.self) said)
     (sym c.clear.ensures)
-    (sequence_run c.sequences_are_units.ensures c.args.b.now c.args.self.now c.self.inside.canvas c.dispatch_long_sgr.new.self
+    (sequence_run sequences_are_units c.args.b.now c.args.self.now c.self.inside.canvas c.dispatch_long_sgr.new.self
     c.self.inside.pending c.take_long_sgr.new.self c.mode.result (sgr_in c.in-Some.longer) None
     c.self.view_is c.mode.ensures c.in-Some.ensures.sequence c.in-Some.ensures.rest c.dispatch_long_sgr.ensures)
 

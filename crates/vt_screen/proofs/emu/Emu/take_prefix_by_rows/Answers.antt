@@ -1,8 +1,8 @@
-use Rattle.std.proofs.Common.{◌≡◌, ℕ, List, [], ◌∷◌, get_or, sym, ap, ◌∙◌, arith}
+use Rattle.std.proofs.Common.{◌≡◌, ℕ, List, [], ◌∷◌, get_or, sym, ap, subst, ◌∙◌, arith}
 use Rattle.vt_screen.proofs.Falling.{level_all, level_one}
 use Rattle.vt_screen.proofs.Feeds.{none_run, take_one}
 use Rattle.vt_screen.proofs.Quiet.{quiet_one}
-use Rattle.vt_screen.specs.Falling.{rows_of_run}
+use Rattle.vt_screen.specs.Falling.{AreWide, rows_of_run}
 use Rattle.vt_screen.specs.Run.{run_from}
 use Rattle.vt_canvas.specs.Screen.{Screen}
 use Rattle.vt_units.specs.Run.{Reached}
@@ -37,3 +37,10 @@ returns-clause-rows c =
 
 pub returns-clause-level : goal.returns-clause-level
 returns-clause-level c = level_one c.args.self.now c.args.b.now
+
+pub returns-clause-wide : goal.returns-clause-wide
+returns-clause-wide c =
+    let nothing : c.take_level-count.result ≡ 0 = omega (arith, c.if-count-gt0.false) in
+    let same : c.args.self.now ≡ c.take_level-count.new.self =
+    none_run c.args.self.now c.args.b.now _ _ c.take_level-count.new.said nothing c.take_level-count.ensures.ran in
+    subst (λ (m : Reached Screen). AreWide m.state.grid.cols c.take_by_rows.new.rows) (sym same) c.take_by_rows.ensures.wide

@@ -1,12 +1,15 @@
-use Rattle.std.proofs.Common.{◌≡◌, ◌==◌, ◌++◌, ℕ, List, [], ◌∷◌, Option, None, Some, is_none, true, refl, ap, sym, subst, ◌∙◌, arith, length, length-drop, take, drop}
+use Rattle.std.proofs.Common.{◌≡◌, ◌==◌, ◌+◌, ◌++◌, ℕ, List, [], ◌∷◌, Option, None, Some, is_none, true, refl, ap, sym, subst, ◌∙◌, arith, length, length-drop, take, drop}
 use Rattle.std.proofs.lemmas.List.{take_rest}
 use Rattle.vt_canvas.specs.declared.out.Out.{Out}
 use Rattle.vt_cells.specs.declared.cell.Cell.{Cell}
 use Rattle.vt_screen.proofs.Falling.{level_on, rows_on}
 use Rattle.vt_screen.proofs.Feeds.{runs_on}
 use Rattle.vt_screen.proofs.Quiet.{quiet_on}
-use Rattle.vt_screen.specs.Falling.{IsLevelBefore, rows_of_run}
+use Rattle.vt_screen.proofs.RowLengths.{cols_stay}
+use Rattle.vt_screen.specs.Falling.{AreWide, IsLevelBefore, rows_of_run}
 use Rattle.vt_screen.specs.Run.{IsQuietBefore, outs_of_option}
+use Rattle.vt_canvas.specs.Screen.{Screen}
+use Rattle.vt_units.specs.Run.{Reached}
 use Rattle.vt_screen.proofs.emu.Emu.write_until_row.Goals as goal
 
 no_outs : (said : Option Out) → is_none said ≡ true → outs_of_option said ≡ []
@@ -47,4 +50,10 @@ loop-at-preserved c =
           ∙ ap (λ (rows : List (List Cell)). rows ++ rows_of_run c.loop-at.self (take n (drop at text)))
           (sym dry ∙ c.loop-at.invariant.rows)
           ∙ rows_on text at n c.args.self.now c.loop-at.self c.loop-at.invariant.done;
+      wide =
+          subst (λ (cols : ℕ). AreWide cols c.take_prefix_by_rows-at.new.rows) c.loop-at.invariant.cols
+          c.take_prefix_by_rows-at.ensures.wide;
+      cols =
+          ap (λ (m : Reached Screen). m.state.grid.cols) next.0
+          ∙ cols_stay c.args.self.now (take (at + n) text);
     }

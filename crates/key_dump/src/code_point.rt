@@ -1,36 +1,17 @@
-//! Numbers and code points, added to a text.
-ghost use Rattle.std.specs.Prelude.{◌≡◌, ◌<◌, ◌++◌, decimal, OnOk};
+//! Code points, added to a text.
+ghost use Rattle.std.specs.Prelude.{◌≡◌, ◌<◌, ◌++◌, OnOk};
 ghost use Rattle.key_syms.specs.Names.{hex4, hex_digit};
 ghost use Rattle.key_dump.specs.Dump.{code_point};
 
-use itoa::Buffer;
 use std::alloc::Global;
 use vt_base::{Bytes, NoMemory};
-
-/// Adds bytes, with room for them.
-pub(crate) fn add(alloc: Global, text: &mut Bytes, b: &[u8]) -> Result<(), NoMemory>
-    ensures { OnOk result (text.new.bytes ≡ text.old.bytes ++ b.now) }
-{
-    text.grow(alloc, b.len())?;
-    text.append(b);
-    Ok(())
-}
-
-/// Adds a decimal number.
-pub(crate) fn add_number(alloc: Global, text: &mut Bytes, n: u8) -> Result<(), NoMemory>
-    ensures { OnOk result (text.new.bytes ≡ text.old.bytes ++ decimal n) }
-{
-    let mut buffer = Buffer::new();
-    add(alloc, text, buffer.format(n).as_bytes())
-}
 
 /// Adds the code point of a character.
 pub(crate) fn add_code_point(alloc: Global, text: &mut Bytes, code: u16) -> Result<(), NoMemory>
     ensures { OnOk result (text.new.bytes ≡ text.old.bytes ++ code_point code) }
 {
-    add(
+    text.add(
         alloc,
-        text,
         &[
             b'U',
             b'+',
