@@ -20,9 +20,9 @@ use crate::Outs;
 use crate::leading::line_feeds;
 use std::marker::Model;
 use vt_canvas::{Canvas, ScreenState, SideEffect};
-use vt_cells::{Palette, columns_are_few};
+use vt_cells::Palette;
 use vt_grid::Grid;
-use vt_units::{Codes, MOST_CODES, Pending, Then, printables_are_characters};
+use vt_units::{Codes, MOST_CODES, Pending, Then};
 
 /// The most bytes that one call of [`Emu::feed`] takes.
 pub const FEED_BYTES: usize = 64;
@@ -249,8 +249,6 @@ impl Emu {
         ensures ran { HasRun self.old b.now result self.new None }
         ensures level { length b.now ≤ room self.old.state → rows_of_run self.old (take result b.now) ≡ [] }
     {
-        printables_are_characters();
-        columns_are_few();
         let mut codes = Codes::new();
         let count = self
             .pending

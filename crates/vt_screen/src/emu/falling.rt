@@ -6,7 +6,7 @@ ghost use Rattle.vt_screen.specs.Run.{HasRun, IsQuietBefore, after, outs_of_opti
 use super::Emu;
 use crate::FallenRows;
 use vt_canvas::SideEffect;
-use vt_units::{Then, Unit, controls_are_units, sequences_are_units};
+use vt_units::{Then, Unit};
 
 impl Emu {
     /// Does what [`Emu::write_until`] does, and also ends after the first byte by which a row falls out at the
@@ -92,7 +92,6 @@ impl Emu {
         ensures ran { HasRun self.old b.now result self.new said.new }
         ensures level { rows_of_run self.old (take result b.now) ≡ [] }
     {
-        sequences_are_units();
         if begins_control(b) || !self.canvas.is_at_end() {
             return self.take_any_sequence(b, said);
         }
@@ -102,13 +101,13 @@ impl Emu {
 
     // Reads a byte and applies its result. `rows` then has the rows that fall out by it.
     #[inline(never)]
+    #[tactic(auto, using(vt_units::proofs::Stated::controls_are_units))]
     fn take_by_rows(&mut self, byte: u8, said: &mut SideEffect, rows: &mut FallenRows)
         requires { rows.old ≡ [] }
         ensures ran { run_from self.old (byte ∷ []) ≡ with_outs (outs_of_option said.new) self.new }
         ensures rows { rows.new ≡ rows_of_run self.old (byte ∷ []) }
         ensures wide { AreWide self.old.state.grid.cols rows.new }
     {
-        controls_are_units();
         said.clear();
         if self.pending.take_control(self.canvas.mode(), byte) {
             rows.keep(&self.canvas, &Unit::Control(byte));
