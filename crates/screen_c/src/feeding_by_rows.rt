@@ -105,7 +105,8 @@ fn put_rows(rows: &FallenRows, places: &mut [VtCell], n: usize) -> usize
     n
 }
 
-// The same for the cells of one row.
+// The same for the cells of one row. `get` copies a cell as one number, so the compiler writes several at once.
+#[inline(never)]
 fn put_row(cells: &[Cell], places: &mut [VtCell], n: usize) -> usize
     ensures { (more : List VtCell) → filled result more places.new
         ≡ filled n (map c_cell cells.now ++ more) places.old }
@@ -115,7 +116,7 @@ fn put_row(cells: &[Cell], places: &mut [VtCell], n: usize) -> usize
     }
     let count = cells.len().min(places.len() - n);
     for i in 0..count {
-        places[n + i] = VtCell::of(cells[i]);
+        places[n + i] = VtCell::of(cells.get(i).copied().unwrap());
     }
     n + count
 }

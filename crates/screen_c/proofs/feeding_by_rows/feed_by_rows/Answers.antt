@@ -1,6 +1,7 @@
-use Rattle.std.proofs.Common.{◌≡◌, ◌<◌, ℕ, zero, suc, ◌+◌, ◌-◌, ◌++◌, List, [], Option, None, Some, refl, ap, sym, ◌∙◌, append_assoc, arith, drop, length, length-drop, map, subst, take, ◌≤◌}
+use Rattle.std.proofs.Common.{◌≡◌, ◌<◌, ℕ, zero, suc, ◌+◌, ◌*◌, ◌-◌, ◌++◌, List, [], ◌∷◌, Option, None, Some, refl, ap, sym, ◌∙◌, append_assoc, arith, drop, length, length-drop, map, subst, take, ◌≤◌}
 use Rattle.std.proofs.lemmas.Grind.{flat_map-append}
-use Rattle.std.proofs.lemmas.List.{append-nil, length-append, length-take}
+use Rattle.std.proofs.lemmas.List.{append-nil, length-append, length-map, length-take}
+use Rattle.std.proofs.lemmas.List.Elements.{All-append, All-head, All-tail}
 use Rattle.std.specs.List.{flat_map}
 use Rattle.c_calls.proofs.Fillings.{filled_none}
 use Rattle.screen_c.proofs.Pieces.{count_more, outs_more, places_more, room_more, rows_more, rows_room_more, screen_more}
@@ -13,7 +14,7 @@ use Rattle.vt_canvas.specs.declared.out.Out.{Out}
 use Rattle.vt_canvas.specs.Screen.{Screen}
 use Rattle.vt_cells.specs.declared.cell.Cell.{Cell}
 use Rattle.vt_screen.proofs.Stated.{any_cut, any_row_cut}
-use Rattle.vt_screen.specs.Falling.{rows_of_run}
+use Rattle.vt_screen.specs.Falling.{AreWide, rows_of_run}
 use Rattle.vt_screen.specs.Run.{outs_of_option, outs_of_run}
 use Rattle.vt_units.specs.Run.{Reached}
 use Rattle.screen_c.proofs.feeding_by_rows.feed_by_rows.Goals.{then-loop-n-test+then-at-b+else-left-ge2, then-loop-n-test+else-at-b, else-loop-n-test}
@@ -27,6 +28,19 @@ some_run m text zero None rows heard fell all some =
     let whole : 0 ≡ length text = all refl fell in omega (arith, whole, some)
 some_run m text zero (Some out) rows heard fell all some = absurd (let e : ⊥ = cc in e)
 some_run m text (suc n) said rows heard fell all some = omega arith
+
+-- rows of so many cells, one after another
+cells_count : (cols : ℕ) (rows : List (List Cell)) → AreWide cols rows
+    → length (flat_map (map c_cell) rows) ≡ length rows * cols
+cells_count cols [] wide = grind arith
+cells_count cols (row ∷ rows) wide =
+    grind (
+      arith,
+      length-append (map c_cell row) (flat_map (map c_cell) rows),
+      length-map row c_cell,
+      All-head (λ (cells : List Cell). length cells ≡ cols) row rows wide,
+      cells_count cols rows (All-tail (λ (cells : List Cell). length cells ≡ cols) row rows wide),
+    )
 
 pub loop-n-smaller : goal.loop-n-smaller
 loop-n-smaller c =
@@ -85,6 +99,11 @@ loop-n-preserved c =
           rows_room_more any_row_cut c.args.emu.now c.loop-n.emu at m c.args.most text c.loop-n.invariant.screen
           (omega (arith, c.if-left-ge2.true, c.loop-n.invariant.rows)) c.loop-n.invariant.room
           c.write_until_row-at.ensures.no_loss;
+      cols = c.write_until_row-at.ensures.cols ∙ c.loop-n.invariant.cols;
+      wide =
+          subst (AreWide c.args.emu.now.state.grid.cols) out
+          (All-append (λ (row : List Cell). length row ≡ c.args.emu.now.state.grid.cols) above fell c.loop-n.invariant.wide
+          (subst (λ (cols : ℕ). AreWide cols fell) c.loop-n.invariant.cols c.write_until_row-at.ensures.wide));
       rows =
           omega (
             arith,
@@ -115,6 +134,13 @@ returns c = record {
       ∙ c.loop-n.invariant.cells []
       ∙ ap (λ (items : List VtCell). with_items items c.args.cells.now) (append-nil _);
   rows = omega (arith, c.loop-n.invariant.rows);
+  wide = c.loop-n.invariant.wide;
+  size =
+      cells_count c.args.emu.now.state.grid.cols (rows_of_run c.args.emu.now (take c.loop-n.at c.args.b.now)) c.loop-n.invariant.wide
+      ∙ ap (λ (n : ℕ). n * c.args.emu.now.state.grid.cols)
+      (let counted : length (rows_of_run c.args.emu.now (take c.loop-n.at c.args.b.now)) ≡ c.args.most - c.loop-n.left =
+      omega (arith, c.loop-n.invariant.rows) in
+      counted);
   all = λ room rows.
       let fits : c.args.most - c.loop-n.left + 2 ≤ c.args.most =
       subst (λ (n : ℕ). c.args.most - c.loop-n.left + 2 ≤ n) (sym c.requires) rows in

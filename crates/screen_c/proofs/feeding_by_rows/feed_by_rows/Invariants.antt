@@ -4,7 +4,7 @@ use Rattle.c_calls.specs.Places.{filled, with_items}
 use Rattle.c_cells.specs.Cells.{c_cell}
 use Rattle.screen_c.specs.Shown.{c_out}
 use Rattle.c_cells.specs.declared.vt_cell.VtCell.{VtCell}
-use Rattle.vt_screen.specs.Falling.{rows_of_run}
+use Rattle.vt_screen.specs.Falling.{AreWide, rows_of_run}
 use Rattle.vt_screen.specs.Run.{after, outs_of_run}
 use Rattle.screen_c.proofs.feeding_by_rows.feed_by_rows.Given as goal
 
@@ -18,6 +18,8 @@ invariant-loop-n l = record {
   count : l.n ≡ length (outs_of_run l.fn.emu (take l.at l.b));
   places : l.places ≡ map c_out (outs_of_run l.fn.emu (take l.at l.b)) ++ drop l.n l.fn.places;
   room : (k : ℕ) → k < l.at → length (rows_of_run l.fn.emu (take k l.b)) + 2 ≤ l.most;
+  cols : l.emu.state.grid.cols ≡ l.fn.emu.state.grid.cols;
+  wide : AreWide l.fn.emu.state.grid.cols (rows_of_run l.fn.emu (take l.at l.b));
   rows : length (rows_of_run l.fn.emu (take l.at l.b)) + l.left ≡ l.most;
   cells : (more : List VtCell) → filled l.filled more l.cells
       ≡ with_items (flat_map (map c_cell) (rows_of_run l.fn.emu (take l.at l.b)) ++ more) l.fn.cells;
