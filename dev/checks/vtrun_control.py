@@ -25,7 +25,26 @@ WANTED = {
     "wait program 1 5": ["no", "`wait program K MS` was wanted, with a program that was started"],
     "scan 1": ["no", "1: bytes of two hexadecimal digits were wanted"],
     "scan 1e9e": ["no", "1e9e: bytes of two hexadecimal digits were wanted"],
-    "type": ["ok", ""],
+    "scan": ["no", ": bytes of two hexadecimal digits were wanted"],
+    "scan 1e ": ["no", ": bytes of two hexadecimal digits were wanted"],
+    "hello 1": ["no", "`hello` was wanted, with no words after it"],
+    "front ": ["no", "`front` was wanted, with no words after it"],
+    "consoles 1": ["no", "`consoles` was wanted, with no words after it"],
+    "processes 1": ["no", "`processes` was wanted, with no words after it"],
+    "journal x": ["no", "`journal` was wanted, with no words after it"],
+    "end now": ["no", "`end` was wanted, with no words after it"],
+    "end\0now": ["no", "a line without null bytes was wanted"],
+    "snap 1 2": ["no", "`snap N` was wanted"],
+    "snap 1 ": ["no", "`snap N` was wanted"],
+    "redraw 1 2": ["no", "`redraw N` was wanted"],
+    "svg 1 2": ["no", "`svg N` was wanted"],
+    "row 1 0 2": ["no", "`row N R` was wanted"],
+    "wait front 1 1 1": ["no", "`wait front N MS` was wanted"],
+    "type": ["no", "`type LENGTH` was wanted"],
+    "type x": ["no", "`type LENGTH` was wanted"],
+    "type 1 3": ["no", "`type LENGTH` was wanted"],
+    "wait text 1 1 1 3": ["no", "`wait text N MS LENGTH` was wanted"],
+    "typed": ["ok", ""],
     "front after": ["ok", "2\n"],
     "wait text": ["no", "it didn't come in time"],
     "run": ["ok", "1\n"],
@@ -39,7 +58,10 @@ WANTED = {
     "attached": True,
     "attached switch": ["ok", ""],
 }
-STATUSES = [0, 1, 0, 1, 1, 0, 0, 1, 1, 0, 0, 3, 0, 1, 2, 2, 3, 3, 2, 0]
+STATUSES = [0, 1, 0, 1, 1, 0, 0, 1, 1, 0, 0, 3, 0, 1, 2, 2, 3, 3, 2, 0] + 21 * [2]
+# What is said of an answer to /dev/full, then the statuses of this and of a closed standard output.
+FULL = "vtrun: standard output can't be written: No space left on device"
+UNWRITTEN = 2 * [FULL, "3", "3"] + [FULL, "125", "125"]
 TYPED = 'aZ09 !~{|\\<"^M\t^[^[[A^[[[A^[[24~^[[[A^[[6~^[[3~^A^[x^[y^[#'
 
 
@@ -63,7 +85,9 @@ def check_protocol(check, place):
 def check_words(check, place):
     """Each word ends with a status that a script can test."""
     ran = place.play("words", "--consoles", "1-2")
-    check.holds(ran.lines() == [str(it) for it in STATUSES], f"statuses: {ran.lines()}, wanted {STATUSES}")
+    wanted = [str(it) for it in STATUSES]
+    check.holds(ran.lines()[: len(wanted)] == wanted, f"statuses: {ran.lines()}, wanted {STATUSES}")
+    check.holds(ran.lines()[len(wanted) :] == UNWRITTEN, f"answers that can't be written: {ran.lines()[len(wanted):]}")
 
 
 def check_typing(check, place):
@@ -80,6 +104,9 @@ def check_attach(check, place):
     ran = place.run(script, "--consoles", "1-2")
     wanted = ["first True", "second True", "second True", "1049l True", "0"]
     check.holds(ran.lines() == wanted, f"attach: {ran.lines()} {ran.err}")
+    ran = command([sys.executable, TESTS / "runs/ends.py"], env=place.environment())
+    wanted = ["gone True 0", "resized True True"]
+    check.holds(ran.stdout.splitlines() == wanted, f"attach at rare moments: {ran.stdout} {ran.stderr}")
 
 
 def check_socket(check, place):

@@ -170,7 +170,10 @@ static bool serve_next(struct client *it)
         return false;
     }
     size_t length = body > 0 ? (size_t)body : 0;
-    serve_line(it, it->in, it->in + line, length);
+    if (strlen(it->in) == line - 1)
+        serve_line(it, it->in, it->in + line, length);
+    else
+        reply_no(it, "a line without null bytes was wanted");
     it->in_length -= line + length;
     memmove(it->in, it->in + line + length, it->in_length);
     return true;

@@ -20,11 +20,11 @@ static void raise_limits(void)
     setrlimit(RLIMIT_NOFILE, &limit);
 }
 
-/* Standard streams that are closed would be taken by files of vtrun. */
+/* Standard streams that are closed would be taken by files of vtrun. A read or write of one fails all the same. */
 static void open_streams(void)
 {
     for (int fd = 0; fd < 3; fd++)
-        if (fcntl(fd, F_GETFD) < 0 && open("/dev/null", O_RDWR) != fd)
+        if (fcntl(fd, F_GETFD) < 0 && open("/dev/null", fd ? O_RDONLY : O_WRONLY) != fd)
             stop(126, "/dev/null can't be opened");
 }
 

@@ -5,7 +5,7 @@
 #include <string.h>
 #include <unistd.h>
 
-enum { MOST_SIDE = 255, ROWS = 25, COLS = 80, FIRST = 1 };
+enum { MOST_SIDE = 255, ROWS = 25, COLS = 80, FIRST = 1, UNWRITTEN = 125 };
 
 struct options options = { .consoles = 1 << FIRST, .rows = ROWS, .cols = COLS, .has_namespaces = true };
 
@@ -13,8 +13,8 @@ static const char usage[] =
     "usage: vtrun [-j JOURNAL] [--keymap FILE] [--size R C] [--consoles LIST] [--user NAME]\n"
     "             [--timeout S] [--on N] [--socket PATH] [--no-namespaces] -- COMMAND ..\n"
     "       vtrun [--socket PATH] attach | type TEXT | scan HH .. | front | wait front N [S] |\n"
-    "             wait owner N [S] | wait text N TEXT [S] | snap [N] [--redraw | --svg] | run N -- COMMAND .. |\n"
-    "             processes | end\n";
+    "             wait owner N [S] | wait text N TEXT [S] | snap [N] [--redraw | --svg] | row N R |\n"
+    "             run N -- COMMAND .. | consoles | processes | journal | end\n";
 
 _Noreturn void stop(int code, const char *form, ...)
 {
@@ -27,8 +27,13 @@ _Noreturn void stop(int code, const char *form, ...)
     exit(code);
 }
 
-/* A whole number from a least to a greatest one, or a stop that names the word. */
-static unsigned number_of(const char *word, const char *what, unsigned least, unsigned most)
+void print(const char *bytes, size_t n, int code)
+{
+    if (fwrite(bytes, 1, n, stdout) != n || fflush(stdout))
+        stop(code, "standard output can't be written: %s", strerror(errno));
+}
+
+unsigned number_of(const char *word, const char *what, unsigned least, unsigned most)
 {
     char *end = "";
     unsigned long n = word && word[0] >= '0' && word[0] <= '9' ? strtoul(word, &end, 10) : most + 1UL;
@@ -95,7 +100,7 @@ void read_options(int count, char **words)
 {
     int at = 1;
     if (count == 2 && strcmp(words[1], "--help") == 0) {
-        fputs(usage, stdout);
+        print(usage, sizeof usage - 1, UNWRITTEN);
         exit(0);
     }
     while (at < count && words[at][0] == '-' && strcmp(words[at], "--"))

@@ -37,6 +37,10 @@ struct options {
 extern struct options options;
 void read_options(int count, char **words);
 _Noreturn void stop(int status, const char *form, ...) __attribute__((format(printf, 2, 3)));
+/* A whole number from a least to a greatest one, or a stop that names what it is of. */
+unsigned number_of(const char *word, const char *what, unsigned least, unsigned most);
+/* Prints on standard output, or stops with a status. */
+void print(const char *bytes, size_t n, int status);
 
 /* ---- The machine (machine.c) ---- */
 
