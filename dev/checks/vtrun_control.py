@@ -9,6 +9,9 @@ from programs import TOP
 from vtrun_runs import TESTS, command, need
 
 PAGE = TOP / "docs/reference/vtrun.md"
+KEYS = "keycode 30 = a\nkeycode 31 = U+00e4\nkeycode 48 = b\n"
+# The row of vtrun/tests/runs/odd_cells.py: U+FFFD in place of each character that no terminal may get.
+ODD = "x\ufffd\ufffd\ufffd\ufffdx\n".encode()
 # What is asked by vtrun/tests/runs/speaker.py, and its answer.
 WANTED = {
     "hello": ["ok", "vtrun 1\n"],
@@ -53,6 +56,8 @@ WANTED = {
     "run bad": ["no", "`run N LENGTH` was wanted, and words with a null byte after each"],
     "svg": "<svg",
     "redraw": True,
+    "half": "no 22\nit didn't come in time",
+    "full": 20000,
     "big": "no 23",
     "still": ["ok", "2\n"],
     "attached": True,
@@ -90,6 +95,12 @@ def check_words(check, place):
     check.holds(ran.lines()[len(wanted) :] == UNWRITTEN, f"answers that can't be written: {ran.lines()[len(wanted):]}")
 
 
+def check_odd_cells(check, place):
+    """Texts of screens are UTF-8, and have no control characters, whatever a program draws."""
+    ran = place.run(f"{sys.executable} {TESTS}/runs/odd_cells.py")
+    check.holds(ran.lines() == [repr(ODD)], f"odd characters: {ran.lines()} {ran.err}")
+
+
 def check_typing(check, place):
     """Characters and names of keys, as programs get them; and after another keymap."""
     need("loadkeys")
@@ -104,6 +115,10 @@ def check_attach(check, place):
     ran = place.run(script, "--consoles", "1-2")
     wanted = ["first True", "second True", "second True", "1049l True", "0"]
     check.holds(ran.lines() == wanted, f"attach: {ran.lines()} {ran.err}")
+    keymap = place.new("keymap")
+    keymap.write_text(KEYS, encoding="ascii")
+    ran = place.run(f"{sys.executable} {TESTS}/runs/cut_keys.py", "--keymap", str(keymap))
+    check.holds(ran.lines() == ["typed True"], f"a character in two pieces: {ran.lines()} {ran.err}")
     ran = command([sys.executable, TESTS / "runs/ends.py"], env=place.environment())
     wanted = ["gone True 0", "resized True True"]
     check.holds(ran.stdout.splitlines() == wanted, f"attach at rare moments: {ran.stdout} {ran.stderr}")
@@ -123,6 +138,6 @@ def check_socket(check, place):
 
 
 PARTS = {
-    "protocol": check_protocol, "words": check_words, "typing": check_typing, "attach": check_attach,
+    "protocol": check_protocol, "words": check_words, "odd cells": check_odd_cells, "typing": check_typing, "attach": check_attach,
     "socket": check_socket,
 }  # fmt: skip

@@ -26,6 +26,13 @@ CLIENTS = {
         "handle Operation not permitted",
     ],
 }  # fmt: skip
+# Words that no option or request has, and how the message begins.
+NAMED = {
+    ("--foo",): "vtrun: --foo: no such option\n",
+    ("--foo", "--", "true"): "vtrun: --foo: no such option\n",
+    ("bogus",): "vtrun: bogus: no such word\n",
+    ("--consoles", "5-2", "--", "true"): "vtrun: --consoles 5-2: numbers from 1 to 63 were wanted",
+}
 REFUSED = "gets no seat: all 64 processes of the machine are taken (EUSERS)"
 NODES = "ls -ln /dev/tty* /dev/vcs* /dev/console 2>/dev/null | awk '{ print $1, $3, $4, $5, $6, $NF }'; ls /dev | sort"
 GROWTH_KB = 1024
@@ -142,10 +149,20 @@ def check_ends(check, place):
     check.holds(ran.returncode == 124, f"a time limit: {ran.returncode}")
     ran = place.run(f"trap '' HUP TERM; sleep {SECONDS} & vtrun end; sleep {SECONDS}")
     check.holds(ran.status == 0 and ran.seconds < LONGEST, f"vtrun end: {ran.status} after {ran.seconds:.0f} s")
-    bad = ("--size 0 80", "--consoles 0", "-x", "--keymap /nonexistent", "--on", "--user nosuchuser")
+    bad = (
+        "--size 0 80", "--consoles 0", "--consoles 1,,2", "--consoles 1,", "--consoles 5-2", "--consoles 1-2-3",
+        "--consoles 64", "-x", "--keymap /nonexistent", "--on", "--user nosuchuser",
+    )  # fmt: skip
     for words in (*([*it.split(), "--", "true"] for it in bad), ["--"], []):
         ran = command([place.folder / "vtrun", *words])
         check.holds(ran.returncode == 2 and ran.stderr.startswith("vtrun: "), f"{words}: {ran.returncode} {ran.stderr}")
+    for words, said in NAMED.items():
+        ran = command([place.folder / "vtrun", *words])
+        check.holds(ran.returncode == 2 and ran.stderr.startswith(said), f"{words}: {ran.returncode} {ran.stderr}")
+    need("prlimit")
+    ran = command(["prlimit", "--nofile=160:160", place.folder / "vtrun", "--", "true"])
+    good = ran.returncode == 126 and ran.stderr.endswith("Too many open files\n")
+    check.holds(good, f"too few descriptors: {ran.returncode} {ran.stderr}")
     bad = place.new("keymap")
     bad.write_text("keycode 30 = nothing\n", encoding="ascii")
     ran = command([place.folder / "vtrun", "--keymap", bad, "--", "true"])

@@ -4,16 +4,29 @@
 #include <stdlib.h>
 #include <string.h>
 
-enum { MOST_WORDS = 1024, PROGRAMS = 4096, RUNS = -1, MOST_MS = 86400000, MOST_ROWS = 255 };
+enum { MOST_WORDS = 1024, MORE_PROGRAMS = 1024, RUNS = -1, MOST_MS = 86400000, MOST_ROWS = 255 };
 
 /* The statuses of the programs that were started, by their numbers. */
-static int statuses[PROGRAMS];
-static unsigned programs;
+static int *statuses;
+static unsigned programs, room;
 
 void program_ended(unsigned number, int how)
 {
-    if (number < PROGRAMS)
+    if (number <= programs)
         statuses[number] = how;
+}
+
+/* Whether there is room for the status of one more program. */
+static bool has_room(void)
+{
+    if (programs + 1 < room)
+        return true;
+    int *more = realloc(statuses, (room + MORE_PROGRAMS) * sizeof *more);
+    if (!more)
+        return false;
+    statuses = more;
+    room += MORE_PROGRAMS;
+    return true;
 }
 
 static const char *const long_forms[] = { "type ", "wait text ", "run " };
@@ -294,8 +307,8 @@ static void run(struct client *it, const char *rest, const char *body, size_t le
         reply_no(it, "`run N LENGTH` was wanted, and words with a null byte after each");
         return;
     }
-    if (programs == PROGRAMS - 1 || !run_program((unsigned)n, words, programs + 1)) {
-        reply_no(it, "no program can be started");
+    if (!has_room() || !run_program((unsigned)n, words, programs + 1)) {
+        reply_no(it, "no program can be started: %s", strerror(errno));
         return;
     }
     statuses[++programs] = RUNS;

@@ -42,30 +42,47 @@ unsigned number_of(const char *word, const char *what, unsigned least, unsigned 
     return (unsigned)n;
 }
 
+/* A console of a list, or 0. `end` is what follows it. */
+static unsigned console_at(const char *word, const char **end)
+{
+    char *rest;
+    unsigned long n = word[0] >= '0' && word[0] <= '9' ? strtoul(word, &rest, 10) : 0;
+    if (n > 0)
+        *end = rest;
+    return n < CONSOLES ? (unsigned)n : 0;
+}
+
 /* The consoles of a list such as 1,2,4-6. */
 static uint64_t consoles_of(const char *list)
 {
     uint64_t found = 0;
-    char *copy = list ? strdup(list) : NULL, *rest = NULL;
-    for (char *part = copy ? strtok_r(copy, ",", &rest) : NULL; part; part = strtok_r(NULL, ",", &rest)) {
-        char *dash = strchr(part, '-');
-        if (dash)
-            *dash = '\0';
-        unsigned first = number_of(part, "--consoles", 1, CONSOLES - 1);
-        unsigned last = dash ? number_of(dash + 1, "--consoles", first, CONSOLES - 1) : first;
+    for (const char *at = list, *end = "";; at = end + 1) {
+        unsigned first = console_at(at, &end), last = first && *end == '-' ? console_at(end + 1, &end) : first;
+        if (!first || last < first || (*end && *end != ','))
+            stop(2, "--consoles %s: numbers from 1 to 63 were wanted, as 1,2,4-6", list);
         for (unsigned n = first; n <= last; n++)
             found |= (uint64_t)1 << n;
+        if (!*end)
+            return found;
     }
-    free(copy);
-    if (!found)
-        stop(2, "--consoles: numbers from 1 to 63 were wanted, as 1,2,4-6");
-    return found;
+}
+
+static bool is_option(const char *word)
+{
+    static const char *const names[] = { "-j",        "--keymap", "--user", "--socket", "--consoles",
+                                         "--timeout", "--on",     "--size", "--no-namespaces" };
+    for (size_t i = 0; i < sizeof names / sizeof *names; i++)
+        if (strcmp(word, names[i]) == 0)
+            return true;
+    return false;
 }
 
 /* Reads the option at words[at]. How many words it has. */
 static int read_option(char **words, int at)
 {
     const char *name = words[at], *value = words[at + 1];
+    if (!is_option(name))
+        stop(2, "%s: no such option\n%s", name, usage);
     if (strcmp(name, "--no-namespaces") == 0) {
         options.has_namespaces = false;
         return 1;
@@ -86,12 +103,11 @@ static int read_option(char **words, int at)
         options.seconds = number_of(value, name, 1, 1000000);
     else if (strcmp(name, "--on") == 0)
         options.on = number_of(value, name, 1, CONSOLES - 1);
-    else if (strcmp(name, "--size") == 0) {
-        options.rows = number_of(value, name, 1, MOST_SIDE);
-        options.cols = number_of(words[at + 2], name, 1, MOST_SIDE);
+    else {
+        options.rows = number_of(value, "--size", 1, MOST_SIDE);
+        options.cols = number_of(words[at + 2], "--size", 1, MOST_SIDE);
         return 3;
-    } else
-        stop(2, "%s: no such option\n%s", name, usage);
+    }
     return 2;
 }
 
@@ -105,7 +121,9 @@ void read_options(int count, char **words)
     }
     while (at < count && words[at][0] == '-' && strcmp(words[at], "--"))
         at += read_option(words, at);
-    if (at < count && strcmp(words[at], "--") == 0)
+    if (at < count && strcmp(words[at], "--"))
+        stop(2, "%s: no such word\n%s", words[at], usage);
+    if (at < count)
         options.command = words + at + 1;
     if (!options.command || !options.command[0])
         stop(2, "no command: it stands after --\n%s", usage);

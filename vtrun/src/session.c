@@ -52,6 +52,11 @@ static char *item_of(char *line, unsigned *caller)
     return strcmp(call, "signals") && strcmp(call, "waitend") && strcmp(call, "exit") ? call : NULL;
 }
 
+static _Noreturn void lose_items(void)
+{
+    stop(125, "the items of a session can't be kept: %s", strerror(errno));
+}
+
 /* Hands each item of the journal to the text of its caller. */
 static void part_items(FILE *journal, FILE **texts)
 {
@@ -65,12 +70,16 @@ static void part_items(FILE *journal, FILE **texts)
         if (!texts[caller])
             texts[caller] = tmpfile();
         if (!texts[caller])
-            stop(125, "the items of a session can't be kept: %s", strerror(errno));
+            lose_items();
         if (caller == KEYBOARD)
             fprintf(texts[caller], "%s%s", ftell(texts[caller]) ? " " : "", call + strlen("scan "));
         else
             fprintf(texts[caller], "  \"%s\",\n", call);
+        if (ferror(texts[caller]))
+            lose_items();
     }
+    if (ferror(journal))
+        stop(125, "%s: the journal can't be read: %s", options.journal, strerror(errno));
     free(line);
 }
 
@@ -81,9 +90,13 @@ static void copy_text(FILE *to, FILE *from)
     size_t n;
     if (!from)
         return;
+    if (fflush(from))
+        lose_items();
     rewind(from);
     while ((n = fread(piece, 1, sizeof piece, from)) > 0)
         fwrite(piece, 1, n, to);
+    if (ferror(from))
+        lose_items();
     fclose(from);
 }
 
@@ -138,6 +151,6 @@ void write_session(FILE *journal)
         fputs("\"\n", to);
     }
     write_processes(to, texts);
-    if (fclose(to))
+    if (fflush(to) || ferror(to) || fclose(to))
         stop(125, "%s: %s", path, strerror(errno));
 }

@@ -208,7 +208,8 @@ void entry_was_set(unsigned table, unsigned code, unsigned kind, unsigned value)
 void code_was_set(unsigned number, unsigned code);
 /* Types a text with the names of keys. False with the first place that is no key. */
 bool type_text(const char *text, size_t n, size_t *fault);
-void type_terminal(const uint8_t *bytes, size_t n);
+/* Types what came from a terminal. How many bytes: the first ones of a character wait for the rest. */
+size_t type_terminal(const uint8_t *bytes, size_t n);
 
 /* ---- Control (control.c, answers.c, snap.c) ---- */
 

@@ -7,6 +7,8 @@ import os
 import socket
 import time
 
+MANY = 20000
+
 
 def connected():
     """A new connection."""
@@ -16,6 +18,12 @@ def connected():
 
 
 ASK
+
+
+def connected_stream(one):
+    """What a connection sends, up to its end."""
+    one.settimeout(100)
+    return one.makefile("rb")
 
 
 def has_room():
@@ -72,6 +80,13 @@ try:
         deaf.sendall(b"snap 1\n")
 except BlockingIOError:
     pass
+half = connected()
+half.sendall(b"wait front 1 100\n")
+half.shutdown(socket.SHUT_WR)
+seen["half"] = half.recv(100).decode()
+full = connected()
+full.sendall(b"wait front 1 1000\n" + MANY * b"front\n")
+seen["full"] = connected_stream(full).read(MANY * 7 + 28).count(b"ok 2\n2\n")
 long = connected()
 long.sendall(b"x" * 10000)
 big = connected()
