@@ -4,6 +4,8 @@ import importlib.util
 import pathlib
 import sys
 
+import tool_files
+
 TOP = pathlib.Path(__file__).resolve().parent.parent
 FOLDER = TOP / "libvt/bindings/python"
 
@@ -28,4 +30,4 @@ def run(name, missing):
     except ImportError as fault:
         print(f"{called()}: {fault}; tools/build.py makes the library", file=sys.stderr)
         return missing
-    return main()
+    return tool_files.run(main, missing)

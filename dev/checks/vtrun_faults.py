@@ -5,7 +5,7 @@ import subprocess
 import sys
 import time
 
-from vtrun_runs import SECONDS, TESTS, Absent, command, need
+from vtrun_runs import LIMIT, SECONDS, TESTS, Absent, command, need
 
 REQUESTS = 8  # of a server that gets a console, loses it, and gets it again
 DEATHS = 6  # of these servers, at least: those that aren't asked so often end by SIGTERM
@@ -169,6 +169,23 @@ def check_ends(check, place):
     check.holds(ran.returncode == 2 and ":1:14: fault 2" in ran.stderr, f"a keymap with a fault: {ran.stderr}")
 
 
+def check_full(check, place):
+    """A journal, or a session, that can't be written as a whole: status 125, and the reason."""
+    need("prlimit")
+    words = [*place.words("-j", place.new("journal")), "sh", "-c", f"{place.folder}/clients {STORM}"]
+    ran = command(["prlimit", "--fsize=20000:20000", *words])
+    good = ran.returncode == 125 and ran.stderr.endswith("the journal can't be written: File too large\n")
+    check.holds(good, f"a journal of at most 20,000 bytes: {ran.returncode} {ran.stderr}")
+    if os.geteuid() or command(["unshare", "-m", "true"]).returncode:
+        raise Absent("no mount namespace may be made")
+    # (the items of a session are kept in /tmp, which has room for three pages here)
+    script = f"mount --bind {place.folder} /mnt && mount -t tmpfs -o size=12k none /tmp && exec \"$@\""
+    words = ["/mnt/vtrun", "--timeout", LIMIT, "-j", "/mnt/full", "--", "/mnt/clients", *STORM.split()]
+    ran = command(["unshare", "-m", "sh", "-c", script, "sh", *words])
+    good = ran.returncode == 125 and "the items of a session can't be kept: No space left" in ran.stderr
+    check.holds(good, f"a session without room for its items: {ran.returncode} {ran.stderr}")
+
+
 def check_memory(check, place):
     """Without a journal memory stays, however many calls are made."""
     need("fgconsole")
@@ -211,5 +228,5 @@ def check_real_consoles(check, place):
 PARTS = {
     "memory": check_memory, "numbers": check_numbers, "flood": check_flood, "deaths": check_deaths,
     "clients": check_clients, "ends": check_ends, "killed": check_killed, "fuzz": check_fuzz,
-    "attention": check_attention, "real consoles": check_real_consoles,
+    "full": check_full, "attention": check_attention, "real consoles": check_real_consoles,
 }  # fmt: skip

@@ -48,6 +48,7 @@ int main(int count, char **words)
         return client;
     read_options(count, words);
     signal(SIGPIPE, SIG_IGN);
+    signal(SIGXFSZ, SIG_IGN); /* (a journal that may grow no more is one that can't be written) */
     raise_limits();
     start_seats();
     open_journal();
