@@ -167,6 +167,9 @@ def check_ends(check, place):
     bad.write_text("keycode 30 = nothing\n", encoding="ascii")
     ran = command([place.folder / "vtrun", "--keymap", bad, "--", "true"])
     check.holds(ran.returncode == 2 and ":1:14: fault 2" in ran.stderr, f"a keymap with a fault: {ran.stderr}")
+    bad.write_bytes(b"# caf\xe9 \xed\xa0\x80 \xf4\x90\x80\x80 \xc3\xa9\r\nkeycode 30 = a\n")
+    ran = place.run("true < /dev/tty1", "--keymap", str(bad), journal=True)
+    check.holds(ran.is_legal(), f"a keymap with a comment that isn't UTF-8: {ran.judged('vt', 'check')} {ran.err}")
 
 
 def check_full(check, place):
