@@ -60,7 +60,7 @@ RUNS = [
     ("echo 'vt: refused 2 at 1:1' | why good.map >&-", 2, "standard output: Bad file descriptor"),
     ("echo 'vt: refused 2 at 1:1' | why good.map > /dev/full", 2, "standard output: No space left on device"),
     ("engines --help >&-", 2, "standard output: Bad file descriptor"),
-    ("expect --help >&-", 3, "standard output: Bad file descriptor"),
+    ("expect --help >&-", 2, "standard output: Bad file descriptor"),
     ("copy_crates vt_base repository >&-", 1, "standard output: Bad file descriptor"),
     ("user_tools > /dev/full", 1, "standard output: No space left on device"),
 ]
