@@ -53,7 +53,7 @@ def run(main, unwritten=1):
             sys.stdout.flush()
     except OSError as fault:
         drop_output()
-        message, status = f"standard output: {reason(fault)}", unwritten
+        message, status = f"{fault.filename or 'standard output'}: {reason(fault)}", unwritten
     except KeyboardInterrupt:
         message, status = "interrupted", 1
     print(f"{os.path.basename(sys.argv[0])}: {message}", file=sys.stderr)

@@ -99,6 +99,9 @@ def check_odd_cells(check, place):
     """Texts of screens are UTF-8, and have no control characters, whatever a program draws."""
     ran = place.run(f"{sys.executable} {TESTS}/runs/odd_cells.py")
     check.holds(ran.lines() == [repr(ODD)], f"odd characters: {ran.lines()} {ran.err}")
+    script = "printf 'a\\033\\303b c' > /proc/$$/comm; exec 3<> /dev/tty1; vtrun processes | cut -d ' ' -f 6-"
+    ran = place.run(script)
+    check.holds(ran.lines() == ["a??b c"], f"an odd name of a process: {ran.lines()} {ran.err}")
 
 
 def check_typing(check, place):
@@ -120,7 +123,7 @@ def check_attach(check, place):
     ran = place.run(f"{sys.executable} {TESTS}/runs/cut_keys.py", "--keymap", str(keymap))
     check.holds(ran.lines() == ["typed True"], f"a character in two pieces: {ran.lines()} {ran.err}")
     ran = command([sys.executable, TESTS / "runs/ends.py"], env=place.environment())
-    wanted = ["gone True 0", "resized True True"]
+    wanted = ["gone True 0", "refused True 1", "resized True True"]
     check.holds(ran.stdout.splitlines() == wanted, f"attach at rare moments: {ran.stdout} {ran.stderr}")
 
 

@@ -159,6 +159,11 @@ def check_ends(check, place):
     for words, said in NAMED.items():
         ran = command([place.folder / "vtrun", *words])
         check.holds(ran.returncode == 2 and ran.stderr.startswith(said), f"{words}: {ran.returncode} {ran.stderr}")
+    kept = place.new("journal")
+    kept.write_text("kept", encoding="ascii")
+    for words in (["--user", "nosuchuser"], ["--keymap", "/nonexistent"]):
+        ran = command([place.folder / "vtrun", "-j", kept, *words, "--", "true"])
+        check.holds(ran.returncode == 2 and kept.read_text() == "kept", f"{words} and a journal: {ran.returncode}")
     need("prlimit")
     ran = command(["prlimit", "--nofile=160:160", place.folder / "vtrun", "--", "true"])
     good = ran.returncode == 126 and ran.stderr.endswith("Too many open files\n")

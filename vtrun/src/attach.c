@@ -11,6 +11,7 @@
 enum { LEAVE = 0x1d, PIECE = 65536 };
 
 static struct termios before;
+static volatile sig_atomic_t is_taken;
 static sigset_t while_polling;
 static volatile sig_atomic_t is_resized; /* (a signal comes in a poll alone: so no poll begins after one was missed) */
 
@@ -30,6 +31,9 @@ static void write_all(int fd, const char *bytes, size_t n)
 static void restore(void)
 {
     static const char end[] = "\033[0m\033[2J\033[H\033[?25h\033[?1049l";
+    if (!is_taken)
+        return;
+    is_taken = 0;
     write_all(STDOUT_FILENO, end, sizeof end - 1);
     tcsetattr(STDIN_FILENO, TCSADRAIN, &before);
 }
@@ -69,7 +73,9 @@ void take_terminal(void)
     sigprocmask(SIG_BLOCK, &resize, &while_polling);
     sigdelset(&while_polling, SIGWINCH);
     write_all(STDOUT_FILENO, begin, sizeof begin - 1);
+    is_taken = 1;
     atexit(restore);
+    before_stop = restore;
 }
 
 /* Hands on what is typed. False if it was Ctrl+], or the terminal is gone. */

@@ -16,9 +16,13 @@ static const char usage[] =
     "             wait owner N [S] | wait text N TEXT [S] | snap [N] [--redraw | --svg] | row N R |\n"
     "             run N -- COMMAND .. | consoles | processes | journal | end\n";
 
+void (*before_stop)(void);
+
 _Noreturn void stop(int code, const char *form, ...)
 {
     va_list values;
+    if (before_stop)
+        before_stop();
     va_start(values, form);
     fputs("vtrun: ", stderr);
     vfprintf(stderr, form, values);

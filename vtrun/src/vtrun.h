@@ -37,6 +37,7 @@ struct options {
 extern struct options options;
 void read_options(int count, char **words);
 _Noreturn void stop(int status, const char *form, ...) __attribute__((format(printf, 2, 3)));
+extern void (*before_stop)(void); /* what a stop does before it prints, or NULL */
 /* A whole number from a least to a greatest one, or a stop that names what it is of. */
 unsigned number_of(const char *word, const char *what, unsigned least, unsigned most);
 /* Prints on standard output, or stops with a status. */

@@ -1,6 +1,7 @@
 """Attaches to a server of its own at moments that are rare: each line has what was seen, and True.
 
 gone: the server closes the connection while a key is on its way; the terminal has to be as it was, and the status 0.
+refused: after another size of the terminal the server refuses it; the reason stands on the screen that was there.
 resized: the terminal gets another size while a text is written to it, and nothing follows.
 """
 import contextlib
@@ -72,6 +73,10 @@ with attached() as (_, one, terminal, pid):
     os.kill(pid, signal.SIGCONT)
     is_left = reads(terminal, b"\x1b[?1049l")
     print("gone", is_left, os.waitstatus_to_exitcode(os.waitpid(pid, 0)[1]))
+with attached() as (server, one, terminal, pid):
+    fcntl.ioctl(terminal, termios.TIOCSWINSZ, struct.pack("HHHH", 30, 90, 0, 0))
+    server.accept()[0].sendall(b"no 5\nnever")
+    print("refused", reads(terminal, b"\x1b[?1049lvtrun: never"), os.waitstatus_to_exitcode(os.waitpid(pid, 0)[1]))
 with attached() as (server, one, terminal, pid):
     one.sendall(b" " * room_of_terminal() + b"the end")
     time.sleep(PAUSE)
