@@ -139,7 +139,7 @@ static int snap(char **words, int count)
     char line[64];
     for (int i = 1; i < count; i++) {
         bool is_form = strcmp(words[i], "--redraw") == 0 || strcmp(words[i], "--svg") == 0;
-        if (is_form ? form != NULL : console != NULL)
+        if (is_form ? form != NULL : console != NULL || words[i][0] == '-')
             stop(2, "`vtrun snap [N] [--redraw | --svg]` was wanted");
         if (is_form)
             form = words[i] + 2;

@@ -4,7 +4,7 @@
 #include <stdlib.h>
 #include <string.h>
 
-/* (a write of 4,096 bytes has at most 819 requests for a console, and each causes at most three marks) */
+/* A call causes at most so many marks: `few` of `World::trace` in crates/vt_world is proved. */
 enum { MOST_MARKS = 3072, KEPT_ENTRIES = 256, FULL_CHARGE = 1 << 30 };
 
 struct vt_machine machine;

@@ -75,7 +75,9 @@ with attached() as (_, one, terminal, pid):
     print("gone", is_left, os.waitstatus_to_exitcode(os.waitpid(pid, 0)[1]))
 with attached() as (server, one, terminal, pid):
     fcntl.ioctl(terminal, termios.TIOCSWINSZ, struct.pack("HHHH", 30, 90, 0, 0))
-    server.accept()[0].sendall(b"no 5\nnever")
+    again, _ = server.accept()
+    again.recv(100)
+    again.sendall(b"no 5\nnever")
     print("refused", reads(terminal, b"\x1b[?1049lvtrun: never"), os.waitstatus_to_exitcode(os.waitpid(pid, 0)[1]))
 with attached() as (server, one, terminal, pid):
     one.sendall(b" " * room_of_terminal() + b"the end")

@@ -36,6 +36,7 @@ status vtrun scan 1e "$line_end"
 status vtrun snap '1 2'
 status vtrun snap 1 2
 status vtrun snap --svg --redraw
+status vtrun snap --foo
 status vtrun run 99 -- true
 status vtrun wait front 64 1
 status vtrun wait front 1 ''
