@@ -29,6 +29,7 @@ import vt_names
 from kbd_text import KeymapError
 from package import called
 from programs import Missing, find
+from tool_files import run as run_tool
 
 SECONDS = 120
 CHARACTER = r"'(\\[0-7]+|\\.|[^'])'"
@@ -146,7 +147,9 @@ def same_actions(program):
     for start in range(0, len(known), 255):
         part = known[start : start + 255]
         text = "keymaps 0\n" + "".join(f"plain keycode {code} = {name}\n" for code, name in enumerate(part, 1))
-        theirs, ours = kbd_tables_of(text.encode()).maps[0], vt_tables_of(program, text).maps[0]
+        theirs, ours = kbd_tables_of(text.encode()).maps[0], vt_tables_of(program, text).maps.get(0)
+        if ours is None:
+            raise ProgramError(f"{program} keys printed no table")
         found.update((theirs[code], ours.get(code, (0, 0))) for code in range(1, len(part) + 1))
     # A letter is the type B; the type D is a dead key by its accent, of those that the type 4 has too.
     found.update((0xFB00 + value, (2, value)) for value in range(256))
@@ -315,4 +318,4 @@ def main():
 
 
 if __name__ == "__main__":
-    sys.exit(main())
+    sys.exit(run_tool(main, 3))

@@ -15,6 +15,7 @@ import shutil
 import sys
 
 from programs import TOP
+from tool_files import run
 
 HANDLES = TOP / "HANDLES"
 LEFT_OUT = ("out",)
@@ -108,4 +109,4 @@ def main():
 
 
 if __name__ == "__main__":
-    sys.exit(main())
+    sys.exit(run(main))

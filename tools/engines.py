@@ -27,6 +27,7 @@ if sys.version_info < (3, 10):
     sys.exit(2)
 
 from programs import TOP, Missing, find  # noqa: E402: needs this Python
+from tool_files import run as run_tool  # noqa: E402
 
 sys.path.insert(1, str(TOP / "dev/engines"))
 from conformance import compare, cutdown, engine_list, page  # noqa: E402: after its folder
@@ -120,4 +121,4 @@ def main():
 
 
 if __name__ == "__main__":
-    sys.exit(main())
+    sys.exit(run_tool(main, 2))

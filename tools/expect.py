@@ -10,4 +10,4 @@ sys.dont_write_bytecode = True
 import package  # noqa: E402: after the line that keeps the package's folder clean
 
 if __name__ == "__main__":
-    sys.exit(package.run("expect", 3))
+    sys.exit(package.run("expect", 3, 2))

@@ -81,7 +81,7 @@ class Compiler:
         self.has_keymaps = self.alt_is_meta = False
         self.constant = set()
         self.charset, self.narrow = "", False
-        self.place = ("", 0)
+        self.place = ("--charset", 0)
         if charset:
             self.set_charset(charset)
 

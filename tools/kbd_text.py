@@ -13,6 +13,8 @@ import pathlib
 import re
 import zlib
 
+from tool_files import shown
+
 # Where kbd and console-data keep keymaps, and below these the folders of what a keymap includes.
 FOLDERS = ["/usr/share/keymaps", "/usr/share/kbd/keymaps", "/lib/kbd/keymaps"]
 COMMON = ["include", "i386/include", "mac/include"]
@@ -64,11 +66,11 @@ def word_of(kind, text, path, line):
     if kind == "number":
         value = number_of(text) if len(text) < 20 else None
         if value is None:
-            raise KeymapError(path, line, f"{text}: not a number: decimal, octal after 0, or hexadecimal after 0x")
+            raise KeymapError(path, line, f"{shown(text)}: not a number: decimal, octal after 0, or hexadecimal after 0x")
     elif kind == "unicode":
         value = int(text[2:], 16) if len(text) == 6 else None
         if value is None:
-            raise KeymapError(path, line, f"{text}: U+ takes four hexadecimal digits")
+            raise KeymapError(path, line, f"{shown(text)}: U+ takes four hexadecimal digits")
     elif kind in ("text", "character"):
         value = unescaped(text)
     return Word(kind, value, text)

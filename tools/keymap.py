@@ -24,6 +24,7 @@ import kbd_tables
 import kbd_text
 from kbd_text import KeymapError
 from package import called
+from tool_files import Stop, read_input, run, write_file
 from vt_names import ACTIONS, NAMES
 
 WIDTH = 110
@@ -288,6 +289,8 @@ def convert(name, charset="", search=(), usual=False, text=None):
         path = pathlib.Path("-") if text is not None else kbd_text.keymap_path(name, search)
     except (OSError, ValueError) as error:
         raise KeymapError(name, 0, f"can't be read: {error}") from error
+    if path is None and os.path.exists(name):
+        raise KeymapError(name, 0, f"can't be read: it is {'a folder' if os.path.isdir(name) else 'no regular file'}")
     if path is None:
         advice = near_names(name, search)
         raise KeymapError(name, 0, f"there is no such keymap, neither here nor in kbd's folders{advice}")
@@ -366,22 +369,20 @@ def words():
 def main():
     asked = words()
     try:
-        text = sys.stdin.buffer.read().decode("latin-1") if asked.file == "-" else None
+        text = read_input().decode("latin-1") if asked.file == "-" else None
         converted = convert(asked.file, asked.charset, asked.search, asked.usual, text)
         sys.stderr.write(report(converted))
         if asked.strict and converted.losses:
             return 1
-        sys.stdout.buffer.write(converted.text.encode())
-        sys.stdout.buffer.flush()
+        write_file(None, converted.text.encode("utf-8", "replace"))
     except KeymapError as error:
         sys.stderr.write(f"{error}\n")
         return 1
-    except OSError as error:
-        os.dup2(os.open(os.devnull, os.O_WRONLY), 1)
-        sys.stderr.write(f"{called()}: can't read or write: {error}\n")
-        return 1
+    except Stop as stop:
+        sys.stderr.write(f"{called()}: {stop}\n")
+        return stop.status
     return 0
 
 
 if __name__ == "__main__":
-    sys.exit(main())
+    sys.exit(run(main))

@@ -4,6 +4,8 @@ import importlib.util
 import pathlib
 import sys
 
+import tool_files
+
 TOP = pathlib.Path(__file__).resolve().parent.parent
 FOLDER = TOP / "libvt/bindings/python"
 
@@ -20,12 +22,13 @@ def module(name):
 called = module("command_line").called
 
 
-def run(name, missing):
-    """Runs a module of the package, and gives its status: `missing` if the C library isn't there."""
+def run(name, missing, unwritten=1):
+    """Runs a module of the package, and gives its status: `missing` if the C library isn't there, `unwritten` if
+    standard output can't be written."""
     sys.path.insert(0, str(FOLDER))
     try:
         main = importlib.import_module(f"libvt.{name}").main
     except ImportError as fault:
         print(f"{called()}: {fault}; tools/build.py makes the library", file=sys.stderr)
         return missing
-    return main()
+    return tool_files.run(main, unwritten)

@@ -25,7 +25,7 @@ import shutil
 import sys
 import tempfile
 
-from tool_files import Stop
+from tool_files import Stop, run
 
 TOP = pathlib.Path(__file__).resolve().parent.parent
 # The crate of each program.
@@ -166,4 +166,4 @@ def main():
 
 
 if __name__ == "__main__":
-    sys.exit(main())
+    sys.exit(run(main))

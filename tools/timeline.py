@@ -27,7 +27,7 @@ from timeline_drawing import Drawing  # noqa: E402
 from timeline_page import page  # noqa: E402
 from timeline_picture import picture  # noqa: E402
 from timeline_screens import colours_of  # noqa: E402
-from tool_files import Stop, read_file, reason, write_file  # noqa: E402
+from tool_files import Stop, read_file, read_input, run, write_file  # noqa: E402
 from watch_json import read_watch  # noqa: E402
 
 MOST_ENTRIES = 100_000
@@ -64,10 +64,7 @@ def main():
     parser.add_argument("--vt", metavar="PATH", help="the program `vt`, for the colours of the screens")
     try:
         args = parser.parse_args()
-        try:
-            given = sys.stdin.buffer.read() if args.json == "-" else read_file(args.json, 3)
-        except (OSError, ValueError, AttributeError) as fault:
-            raise Stop(3, f"standard input: {reason(fault)}") from None
+        given = read_input(3) if args.json == "-" else read_file(args.json, 3)
         entries, final = read_watch(given, MOST_ENTRIES)
         name = "a session" if args.json == "-" else pathlib.Path(args.json).stem
         text = drawn(args, args.title or f"Timeline of {name}", entries, final)
@@ -79,4 +76,4 @@ def main():
 
 
 if __name__ == "__main__":
-    sys.exit(main())
+    sys.exit(run(main, 3))

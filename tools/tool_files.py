@@ -1,5 +1,8 @@
 """Files of the tools: they are read and written whole, and a fault ends the tool with a status and a message."""
+import os
 import sys
+
+MOST_SHOWN = 60
 
 
 class Stop(Exception):
@@ -15,6 +18,48 @@ def reason(fault):
     return getattr(fault, "strerror", None) or str(fault)
 
 
+def shown(text):
+    """A text in a message, of at most 60 characters."""
+    return text if len(text) <= MOST_SHOWN else text[: MOST_SHOWN - 3] + "..."
+
+
+def open_streams():
+    """Puts a stream in place of each standard one that is closed: a read of the first and a write of the second fail."""
+    for number, (name, mode, way) in enumerate(
+        (("stdin", "r", os.O_WRONLY), ("stdout", "w", os.O_RDONLY), ("stderr", "w", os.O_WRONLY))
+    ):
+        if getattr(sys, name) is None:
+            opened = os.open(os.devnull, way)
+            if opened != number:
+                os.dup2(opened, number)
+                os.close(opened)
+            setattr(sys, name, open(number, mode, encoding="utf-8", errors="backslashreplace", closefd=False))
+
+
+def drop_output():
+    """What standard output still holds can't be written, and is given up."""
+    nothing = os.open(os.devnull, os.O_WRONLY)
+    os.dup2(nothing, 1)
+    os.close(nothing)
+
+
+def run(main, unwritten=1):
+    """Runs a tool, and gives its status: `unwritten` if standard output can't be written, and 1 after an interrupt."""
+    open_streams()
+    try:
+        try:
+            return main()
+        finally:
+            sys.stdout.flush()
+    except OSError as fault:
+        drop_output()
+        message, status = f"{fault.filename or 'standard output'}: {reason(fault)}", unwritten
+    except KeyboardInterrupt:
+        message, status = "interrupted", 1
+    print(f"{os.path.basename(sys.argv[0])}: {message}", file=sys.stderr)
+    return status
+
+
 def read_file(path, status=1):
     """A file's bytes."""
     try:
@@ -22,6 +67,14 @@ def read_file(path, status=1):
             return file.read()
     except (OSError, ValueError) as fault:
         raise Stop(status, f"{path}: {reason(fault)}") from None
+
+
+def read_input(status=1):
+    """The bytes of standard input."""
+    try:
+        return sys.stdin.buffer.read()
+    except OSError as fault:
+        raise Stop(status, f"standard input: {reason(fault)}") from None
 
 
 def write_file(path, given, status=1):
@@ -34,6 +87,8 @@ def write_file(path, given, status=1):
             with open(path, "wb") as file:
                 file.write(given)
     except (OSError, ValueError) as fault:
+        if path is None:
+            drop_output()
         raise Stop(status, f"{path or 'standard output'}: {reason(fault)}") from None
 
 

@@ -21,9 +21,11 @@ except ImportError:
 
 from package import called
 from programs import find
-from tool_files import Stop, read_file, write_file
+from tool_files import Stop, read_file, read_input, reason, run, shown, write_file
 
 MOST_TURNS = 1_000_000
+MOST_DIGITS = 9
+SECONDS = 600
 # The words of an item, for a reader.
 WORDS = """CALLER is k0 to k3 or p1 to p64, as in a journal. The words are:
 
@@ -36,6 +38,7 @@ WORDS = """CALLER is k0 to k3 or p1 to p64, as in a journal. The words are:
     all but CALLER [CALLER ..] until they wait
                                the same without these callers"""
 CALLER = r"(k[0-3]|p[1-9][0-9]?)"
+CALL = re.compile(r"([kp][0-9]{1,2}) [0-9]+ (.*?) = (.+)")
 FORMS = [
     (re.compile(rf"{CALLER} once"), "times"),
     (re.compile(rf"{CALLER} ([1-9][0-9]*) times"), "times"),
@@ -59,6 +62,11 @@ def word_of(number):
     if number == 0:
         return "k0"
     return f"p{number}" if number <= 64 else f"k{number - 64}"
+
+
+def count_of(digits):
+    """A number of words; one of many digits is more than any session has."""
+    return int(digits[:MOST_DIGITS]) if len(digits) <= MOST_DIGITS else 10**MOST_DIGITS
 
 
 def refuse(place, why):
@@ -103,7 +111,7 @@ def is_array(part, words):
     """The text is that of an array of these items."""
     try:
         return tomllib.loads(f"turns = {part}")["turns"] == words
-    except tomllib.TOMLDecodeError:
+    except ValueError:
         return False
 
 
@@ -138,19 +146,22 @@ class Players:
         """The calls of the play with these turns."""
         session = with_turns(self.text, self.span, turns).encode()
         try:
-            run = subprocess.run([self.program, "play"], input=session, capture_output=True)
+            ran = subprocess.run([self.program, "play"], input=session, capture_output=True, timeout=SECONDS)
         except OSError as fault:
-            raise Stop(2, f"{self.program}: {fault.strerror}") from None
-        if run.returncode not in (0, 7):
-            raise Stop(1, f"vt play: {run.stderr.decode(errors='replace').strip()}")
+            raise Stop(2, f"{self.program}: {reason(fault)}") from None
+        except subprocess.TimeoutExpired:
+            raise Stop(2, f"{self.program} play didn't end within {SECONDS} s") from None
+        if ran.returncode not in (0, 7):
+            raise Stop(1, f"vt play: {ran.stderr.decode(errors='replace').strip()}")
+        first, *lines = ran.stdout.decode(errors="replace").split("\n")
         calls = []
-        for line in run.stdout.decode(errors="replace").split("\n")[1:]:
+        for line in lines:
             if line.startswith("%"):
                 break
-            words, answer = line.split(" = ", 1)
-            caller, _, call = words.split(" ", 2)
-            calls.append((caller, call, answer))
-        return calls
+            calls.append(CALL.fullmatch(line))
+        if not first.startswith("%journal ") or None in calls:
+            raise Stop(2, f"{self.program} play printed no journal")
+        return [found.groups() for found in calls]
 
     def step(self, caller):
         """Whether the caller makes a call at one more turn. If it does, that turn stands."""
@@ -238,9 +249,10 @@ def items_made(players, scripts, caller):
     return made
 
 
-def until_item(players, scripts, place, caller, item):
+def until_item(players, scripts, place, caller, digits):
+    item = count_of(digits)
     if item > scripts.items[caller]:
-        refuse(place, f"{caller} has {scripts.items[caller]} items, and no item {item}")
+        refuse(place, f"{caller} has {scripts.items[caller]} items, and no item {shown(digits)}")
     if items_made(players, scripts, caller) >= item:
         refuse(place, f"{caller} has called item {item} before")
     while items_made(players, scripts, caller) < item:
@@ -292,7 +304,7 @@ def do_word(players, scripts, place, text):
         if found:
             break
     else:
-        refuse(place, f"no such words: {text}\n{WORDS}")
+        refuse(place, f"no such words: {shown(text)}\n{WORDS}")
     named = (found[1] or "").split()
     for caller in named:
         if caller not in scripts.items:
@@ -300,9 +312,9 @@ def do_word(players, scripts, place, text):
     if kind == "all":
         return rounds(players, [caller for caller in scripts.callers() if caller not in named])
     if kind == "times":
-        return times(players, place, named[0], int(found[2]) if form.groups > 1 else 1)
+        return times(players, place, named[0], count_of(found[2]) if form.groups > 1 else 1)
     if kind == "item":
-        return until_item(players, scripts, place, named[0], int(found[2]))
+        return until_item(players, scripts, place, named[0], found[2])
     if kind == "waits":
         return until_waits(players, place, named[0])
     return until_over(players, place, named[0])
@@ -315,7 +327,7 @@ def numbered(program, given):
     try:
         text = given.decode()
         document = tomllib.loads(text)
-    except (UnicodeDecodeError, tomllib.TOMLDecodeError, RecursionError) as fault:
+    except (ValueError, RecursionError) as fault:
         raise Stop(1, f"the session is no TOML document: {fault}") from None
     words = document.get("turns")
     if not isinstance(words, list):
@@ -342,7 +354,7 @@ def main():
     parser.add_argument("--vt", metavar="PATH", help="the program vt; without it that of VT, of the clone or of PATH")
     args = parser.parse_args()
     try:
-        given = sys.stdin.buffer.read() if args.session == "-" else read_file(args.session, 3)
+        given = read_input(3) if args.session == "-" else read_file(args.session, 3)
         write_file(args.output, numbered(str(find("vt", args.vt)), given), 3)
     except Stop as stop:
         print(f"{called()}: {stop}", file=sys.stderr)
@@ -351,4 +363,4 @@ def main():
 
 
 if __name__ == "__main__":
-    sys.exit(main())
+    sys.exit(run(main, 3))

@@ -12,6 +12,7 @@ import pathlib
 import sys
 
 from programs import TOP
+from tool_files import run
 
 # The folders of the tools and of the modules that they import.
 FOLDERS = (TOP / "tools", TOP / "dev/engines")
@@ -90,4 +91,4 @@ def main():
 
 
 if __name__ == "__main__":
-    sys.exit(main())
+    sys.exit(run(main))

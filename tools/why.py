@@ -25,6 +25,7 @@ import keymap
 import why_sessions
 from kbd_text import KeymapError, near
 from programs import tool_name
+from tool_files import Stop, run, write_file
 from vt_names import ACTIONS
 
 KEYMAP_CODES = {
@@ -300,15 +301,13 @@ def main():
             text = file.read()
         err = sys.stdin.buffer.read().decode("utf-8", "replace")
         lines = [line for line in explained(asked.vt, asked.file, text, err) if line]
-        sys.stdout.buffer.write(
-            "".join(line + "\n" for line in lines or ["No line of vt stands on err."]).encode("utf-8", "replace")
-        )
-        sys.stdout.buffer.flush()
-    except (OSError, KeymapError) as error:
+        text = "".join(line + "\n" for line in lines or ["No line of vt stands on err."])
+        write_file(None, text.encode("utf-8", "replace"), 2)
+    except (OSError, KeymapError, Stop) as error:
         sys.stderr.write(f"{called()}: {error}\n")
         return 2
     return 0 if lines else 1
 
 
 if __name__ == "__main__":
-    sys.exit(main())
+    sys.exit(run(main, 2))

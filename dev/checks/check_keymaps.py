@@ -233,7 +233,7 @@ def refused_faults():
             ([place / "loop.map"], "deep"),
             ([place / "torn.map.gz"], "can't be read"),
             ([place / "none.map"], "there is no such keymap"),
-            ([place], "there is no such keymap"),
+            ([place], "can't be read: it is a folder"),
             ([place / "whole.map"], 'include "letters"'),
             (["--charset", "nix", place / "whole.map"], "no such character set"),
         ]:

@@ -15,8 +15,10 @@ failed. Status 1: a check failed; 2: a word isn't known.
 """
 import argparse
 import concurrent.futures
+import contextlib
 import os
 import pathlib
+import signal
 import subprocess
 import sys
 import threading
@@ -53,6 +55,7 @@ CHECKS = [
     ("check_explore", ["dev/checks/check_explore.py"]),
     ("check_timeline", ["dev/checks/check_timeline.py"]),
     ("check_keymaps", ["dev/checks/check_keymaps.py"]),
+    ("check_tools", ["dev/checks/check_tools.py"]),
     ("check_models", ["dev/checks/check_models.py"]),
     ("engines vt", ["tools/engines.py", "vt", "--cut", "--first"]),
     ("check_build", ["dev/checks/check_build.py", "--build"]),
@@ -82,6 +85,22 @@ CHECKS = [
 ]
 
 
+# The process groups of the checks that run: each is one of its own, so that it ends with all that it started.
+GROUPS = set()
+
+
+def end_group(group):
+    """Ends a check and what it started."""
+    with contextlib.suppress(ProcessLookupError):
+        os.killpg(group, signal.SIGKILL)
+
+
+def end_all():
+    """Ends all checks that run."""
+    for group in list(GROUPS):
+        end_group(group)
+
+
 def run(command, is_shown=False):
     """Whether a check passed, what it printed, and the seconds by the clock. It may be shown line by line."""
     said, start, status = [], time.monotonic(), None
@@ -89,14 +108,17 @@ def run(command, is_shown=False):
         with subprocess.Popen(
             command, cwd=TOP, env={**os.environ, "VT_PROVED": "1"}, stdin=subprocess.DEVNULL,
             stdout=subprocess.PIPE, stderr=subprocess.STDOUT, encoding="utf-8", errors="replace",
+            start_new_session=True,
         ) as running:  # fmt: skip
-            end = threading.Timer(LIMIT, running.kill)
+            end = threading.Timer(LIMIT, end_group, [running.pid])
             end.start()
+            GROUPS.add(running.pid)
             for line in running.stdout:
                 said.append(line)
                 if is_shown:
                     print(line, end="", flush=True)
             status = running.wait()
+            GROUPS.discard(running.pid)
             end.cancel()
     except OSError as fault:
         said.append(f"{command[0]}: {fault.strerror}\n")
@@ -147,6 +169,19 @@ def minutes():
     return (up - began) / 60, sum(used[:4]) / 60
 
 
+def run_beside(report, checks, jobs):
+    """Runs checks side by side."""
+    with concurrent.futures.ThreadPoolExecutor(jobs) as pool:
+        running = {pool.submit(run, command): name for name, command in checks}
+        try:
+            for done in concurrent.futures.as_completed(running):
+                report.take(running[done], *done.result())
+        except KeyboardInterrupt:
+            pool.shutdown(wait=False, cancel_futures=True)
+            end_all()
+            raise
+
+
 def main():
     parser = argparse.ArgumentParser(usage=__doc__.split("usage: ")[1].split("\n\n")[0])
     parser.add_argument("--quick", action="store_true")
@@ -166,10 +201,7 @@ def main():
     report = Report()
     for name, command in filter(is_wanted, first):
         report.take(name, *run(command, is_shown=True), is_shown=True)
-    with concurrent.futures.ThreadPoolExecutor(max(options.jobs, 1)) as pool:
-        running = {pool.submit(run, command): name for name, command in filter(is_wanted, beside)}
-        for done in concurrent.futures.as_completed(running):
-            report.take(running[done], *done.result())
+    run_beside(report, list(filter(is_wanted, beside)), max(options.jobs, 1))
     for name, command in filter(is_wanted, behind):
         if name in OVER_LIBRARY and not LIBRARY.exists():
             report.skipped.append(f"{name}: the C library isn't built")
@@ -179,4 +211,8 @@ def main():
 
 
 if __name__ == "__main__":
-    sys.exit(main())
+    try:
+        sys.exit(main())
+    except KeyboardInterrupt:
+        end_all()
+        sys.exit(1)

@@ -9,6 +9,9 @@ from programs import TOP
 from vtrun_runs import TESTS, command, need
 
 PAGE = TOP / "docs/reference/vtrun.md"
+KEYS = "keycode 30 = a\nkeycode 31 = U+00e4\nkeycode 48 = b\n"
+# The row of vtrun/tests/runs/odd_cells.py: U+FFFD in place of each character that no terminal may get.
+ODD = "x\ufffd\ufffd\ufffd\ufffdx\n".encode()
 # What is asked by vtrun/tests/runs/speaker.py, and its answer.
 WANTED = {
     "hello": ["ok", "vtrun 1\n"],
@@ -25,7 +28,26 @@ WANTED = {
     "wait program 1 5": ["no", "`wait program K MS` was wanted, with a program that was started"],
     "scan 1": ["no", "1: bytes of two hexadecimal digits were wanted"],
     "scan 1e9e": ["no", "1e9e: bytes of two hexadecimal digits were wanted"],
-    "type": ["ok", ""],
+    "scan": ["no", ": bytes of two hexadecimal digits were wanted"],
+    "scan 1e ": ["no", ": bytes of two hexadecimal digits were wanted"],
+    "hello 1": ["no", "`hello` was wanted, with no words after it"],
+    "front ": ["no", "`front` was wanted, with no words after it"],
+    "consoles 1": ["no", "`consoles` was wanted, with no words after it"],
+    "processes 1": ["no", "`processes` was wanted, with no words after it"],
+    "journal x": ["no", "`journal` was wanted, with no words after it"],
+    "end now": ["no", "`end` was wanted, with no words after it"],
+    "end\0now": ["no", "a line without null bytes was wanted"],
+    "snap 1 2": ["no", "`snap N` was wanted"],
+    "snap 1 ": ["no", "`snap N` was wanted"],
+    "redraw 1 2": ["no", "`redraw N` was wanted"],
+    "svg 1 2": ["no", "`svg N` was wanted"],
+    "row 1 0 2": ["no", "`row N R` was wanted"],
+    "wait front 1 1 1": ["no", "`wait front N MS` was wanted"],
+    "type": ["no", "`type LENGTH` was wanted"],
+    "type x": ["no", "`type LENGTH` was wanted"],
+    "type 1 3": ["no", "`type LENGTH` was wanted"],
+    "wait text 1 1 1 3": ["no", "`wait text N MS LENGTH` was wanted"],
+    "typed": ["ok", ""],
     "front after": ["ok", "2\n"],
     "wait text": ["no", "it didn't come in time"],
     "run": ["ok", "1\n"],
@@ -34,12 +56,17 @@ WANTED = {
     "run bad": ["no", "`run N LENGTH` was wanted, and words with a null byte after each"],
     "svg": "<svg",
     "redraw": True,
+    "half": "no 22\nit didn't come in time",
+    "full": 20000,
     "big": "no 23",
     "still": ["ok", "2\n"],
     "attached": True,
     "attached switch": ["ok", ""],
 }
-STATUSES = [0, 1, 0, 1, 1, 0, 0, 1, 1, 0, 0, 3, 0, 1, 2, 2, 3, 3, 2, 0]
+STATUSES = [0, 1, 0, 1, 1, 0, 0, 1, 1, 0, 0, 3, 0, 1, 2, 2, 3, 3, 2, 0] + 22 * [2]
+# What is said of an answer to /dev/full, then the statuses of this and of a closed standard output.
+FULL = "vtrun: standard output can't be written: No space left on device"
+UNWRITTEN = 2 * [FULL, "3", "3"] + [FULL, "125", "125"]
 TYPED = 'aZ09 !~{|\\<"^M\t^[^[[A^[[[A^[[24~^[[[A^[[6~^[[3~^A^[x^[y^[#'
 
 
@@ -63,7 +90,18 @@ def check_protocol(check, place):
 def check_words(check, place):
     """Each word ends with a status that a script can test."""
     ran = place.play("words", "--consoles", "1-2")
-    check.holds(ran.lines() == [str(it) for it in STATUSES], f"statuses: {ran.lines()}, wanted {STATUSES}")
+    wanted = [str(it) for it in STATUSES]
+    check.holds(ran.lines()[: len(wanted)] == wanted, f"statuses: {ran.lines()}, wanted {STATUSES}")
+    check.holds(ran.lines()[len(wanted) :] == UNWRITTEN, f"answers that can't be written: {ran.lines()[len(wanted):]}")
+
+
+def check_odd_cells(check, place):
+    """Texts of screens are UTF-8, and have no control characters, whatever a program draws."""
+    ran = place.run(f"{sys.executable} {TESTS}/runs/odd_cells.py")
+    check.holds(ran.lines() == [repr(ODD)], f"odd characters: {ran.lines()} {ran.err}")
+    script = "printf 'a\\033\\303b c' > /proc/$$/comm; exec 3<> /dev/tty1; vtrun processes | cut -d ' ' -f 6-"
+    ran = place.run(script)
+    check.holds(ran.lines() == ["a??b c"], f"an odd name of a process: {ran.lines()} {ran.err}")
 
 
 def check_typing(check, place):
@@ -80,6 +118,13 @@ def check_attach(check, place):
     ran = place.run(script, "--consoles", "1-2")
     wanted = ["first True", "second True", "second True", "1049l True", "0"]
     check.holds(ran.lines() == wanted, f"attach: {ran.lines()} {ran.err}")
+    keymap = place.new("keymap")
+    keymap.write_text(KEYS, encoding="ascii")
+    ran = place.run(f"{sys.executable} {TESTS}/runs/cut_keys.py", "--keymap", str(keymap))
+    check.holds(ran.lines() == ["typed True"], f"a character in two pieces: {ran.lines()} {ran.err}")
+    ran = command([sys.executable, TESTS / "runs/ends.py"], env=place.environment())
+    wanted = ["gone True 0", "refused True 1", "resized True True"]
+    check.holds(ran.stdout.splitlines() == wanted, f"attach at rare moments: {ran.stdout} {ran.stderr}")
 
 
 def check_socket(check, place):
@@ -96,6 +141,6 @@ def check_socket(check, place):
 
 
 PARTS = {
-    "protocol": check_protocol, "words": check_words, "typing": check_typing, "attach": check_attach,
-    "socket": check_socket,
+    "protocol": check_protocol, "words": check_words, "odd cells": check_odd_cells, "typing": check_typing,
+    "attach": check_attach, "socket": check_socket,
 }  # fmt: skip

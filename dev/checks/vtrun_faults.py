@@ -5,7 +5,7 @@ import subprocess
 import sys
 import time
 
-from vtrun_runs import SECONDS, TESTS, Absent, command, need
+from vtrun_runs import LIMIT, SECONDS, TESTS, Absent, command, need
 
 REQUESTS = 8  # of a server that gets a console, loses it, and gets it again
 DEATHS = 6  # of these servers, at least: those that aren't asked so often end by SIGTERM
@@ -26,6 +26,13 @@ CLIENTS = {
         "handle Operation not permitted",
     ],
 }  # fmt: skip
+# Words that no option or request has, and how the message begins.
+NAMED = {
+    ("--foo",): "vtrun: --foo: no such option\n",
+    ("--foo", "--", "true"): "vtrun: --foo: no such option\n",
+    ("bogus",): "vtrun: bogus: no such word\n",
+    ("--consoles", "5-2", "--", "true"): "vtrun: --consoles 5-2: numbers from 1 to 63 were wanted",
+}
 REFUSED = "gets no seat: all 64 processes of the machine are taken (EUSERS)"
 NODES = "ls -ln /dev/tty* /dev/vcs* /dev/console 2>/dev/null | awk '{ print $1, $3, $4, $5, $6, $NF }'; ls /dev | sort"
 GROWTH_KB = 1024
@@ -142,14 +149,49 @@ def check_ends(check, place):
     check.holds(ran.returncode == 124, f"a time limit: {ran.returncode}")
     ran = place.run(f"trap '' HUP TERM; sleep {SECONDS} & vtrun end; sleep {SECONDS}")
     check.holds(ran.status == 0 and ran.seconds < LONGEST, f"vtrun end: {ran.status} after {ran.seconds:.0f} s")
-    bad = ("--size 0 80", "--consoles 0", "-x", "--keymap /nonexistent", "--on", "--user nosuchuser")
+    bad = (
+        "--size 0 80", "--consoles 0", "--consoles 1,,2", "--consoles 1,", "--consoles 5-2", "--consoles 1-2-3",
+        "--consoles 64", "-x", "--keymap /nonexistent", "--on", "--user nosuchuser",
+    )  # fmt: skip
     for words in (*([*it.split(), "--", "true"] for it in bad), ["--"], []):
         ran = command([place.folder / "vtrun", *words])
         check.holds(ran.returncode == 2 and ran.stderr.startswith("vtrun: "), f"{words}: {ran.returncode} {ran.stderr}")
+    for words, said in NAMED.items():
+        ran = command([place.folder / "vtrun", *words])
+        check.holds(ran.returncode == 2 and ran.stderr.startswith(said), f"{words}: {ran.returncode} {ran.stderr}")
+    kept = place.new("journal")
+    kept.write_text("kept", encoding="ascii")
+    for words in (["--user", "nosuchuser"], ["--keymap", "/nonexistent"]):
+        ran = command([place.folder / "vtrun", "-j", kept, *words, "--", "true"])
+        check.holds(ran.returncode == 2 and kept.read_text() == "kept", f"{words} and a journal: {ran.returncode}")
+    need("prlimit")
+    ran = command(["prlimit", "--nofile=160:160", place.folder / "vtrun", "--", "true"])
+    good = ran.returncode == 126 and ran.stderr.endswith("Too many open files\n")
+    check.holds(good, f"too few descriptors: {ran.returncode} {ran.stderr}")
     bad = place.new("keymap")
     bad.write_text("keycode 30 = nothing\n", encoding="ascii")
     ran = command([place.folder / "vtrun", "--keymap", bad, "--", "true"])
     check.holds(ran.returncode == 2 and ":1:14: fault 2" in ran.stderr, f"a keymap with a fault: {ran.stderr}")
+    bad.write_bytes(b"# caf\xe9 \xed\xa0\x80 \xf4\x90\x80\x80 \xc3\xa9\r\nkeycode 30 = a\n")
+    ran = place.run("true < /dev/tty1", "--keymap", str(bad), journal=True)
+    check.holds(ran.is_legal(), f"a keymap with a comment that isn't UTF-8: {ran.judged('vt', 'check')} {ran.err}")
+
+
+def check_full(check, place):
+    """A journal, or a session, that can't be written as a whole: status 125, and the reason."""
+    need("prlimit")
+    words = [*place.words("-j", place.new("journal")), "sh", "-c", f"{place.folder}/clients {STORM}"]
+    ran = command(["prlimit", "--fsize=20000:20000", *words])
+    good = ran.returncode == 125 and ran.stderr.endswith("the journal can't be written: File too large\n")
+    check.holds(good, f"a journal of at most 20,000 bytes: {ran.returncode} {ran.stderr}")
+    if os.geteuid() or command(["unshare", "-m", "true"]).returncode:
+        raise Absent("no mount namespace may be made")
+    # (the items of a session are kept in /tmp, which has room for three pages here)
+    script = f"mount --bind {place.folder} /mnt && mount -t tmpfs -o size=12k none /tmp && exec \"$@\""
+    words = ["/mnt/vtrun", "--timeout", LIMIT, "-j", "/mnt/full", "--", "/mnt/clients", *STORM.split()]
+    ran = command(["unshare", "-m", "sh", "-c", script, "sh", *words])
+    good = ran.returncode == 125 and "the items of a session can't be kept: No space left" in ran.stderr
+    check.holds(good, f"a session without room for its items: {ran.returncode} {ran.stderr}")
 
 
 def check_memory(check, place):
@@ -194,5 +236,5 @@ def check_real_consoles(check, place):
 PARTS = {
     "memory": check_memory, "numbers": check_numbers, "flood": check_flood, "deaths": check_deaths,
     "clients": check_clients, "ends": check_ends, "killed": check_killed, "fuzz": check_fuzz,
-    "attention": check_attention, "real consoles": check_real_consoles,
+    "full": check_full, "attention": check_attention, "real consoles": check_real_consoles,
 }  # fmt: skip

@@ -3,6 +3,7 @@ import os
 import pathlib
 import pwd
 import re
+import sys
 
 from vtrun_runs import NOBODY, TESTS, Absent, need
 
@@ -162,6 +163,9 @@ def check_user(check, place):
         ran = place.play("user", "--consoles", "1-2", *words, before=before)
         good = ran.lines() == ["2", "0"] and ran.status == 0
         check.holds(good, f"vtrun of nobody {words}: {ran.lines()} {ran.err}")
+    before += [sys.executable, TESTS / "runs/no_mounts.py"]
+    ran = place.run("stat -c %u /; chvt 2; fgconsole", "--consoles", "1-2", before=before)
+    check.holds(ran.lines() == ["0", "2"], f"vtrun of nobody who may mount nothing: {ran.lines()} {ran.err}")
 
 
 def check_container(check, place):

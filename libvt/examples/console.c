@@ -36,8 +36,9 @@ static void run(const char *name, char **command, const struct winsize *size)
     for (size_t i = 0; i < sizeof others / sizeof *others; i++)
         unsetenv(others[i]);
     execvp(command[0], command);
-    dprintf(2, "term: %s: %s\r\n", command[0], strerror(errno));
-    _exit(errno == ENOENT ? 127 : 126);
+    int error = errno;
+    dprintf(2, "term: %s: %s\r\n", command[0], strerror(error));
+    _exit(error == ENOENT ? 127 : 126);
 }
 
 int start_console(struct console *c, char **command, const struct winsize *size)

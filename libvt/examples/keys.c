@@ -62,6 +62,8 @@ static int next_scan(void)
     do
         first = getchar();
     while (isspace(first));
+    if (first == EOF && ferror(stdin))
+        fail(2, "can't be read", "standard input");
     if (first == EOF)
         return -1;
     second = getchar();

@@ -4,7 +4,7 @@
  *     cc -o machine machine.c $(pkg-config --cflags --libs vt)
  *     ./machine
  *
- * Status 1: a call isn't made. */
+ * Status 1: a call isn't made; 3: a write failed. */
 #include <stdio.h>
 #include <stdlib.h>
 #include <string.h>
@@ -63,5 +63,5 @@ int main(void)
     must(vt_machine_journal(&machine, journal, sizeof journal, &length));
     printf("\n%.*s", (int)length, (const char *)journal);
     vt_machine_free(&machine);
-    return 0;
+    return fflush(stdout) == 0 ? 0 : 3;
 }

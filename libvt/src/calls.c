@@ -5,12 +5,15 @@
  *   and any number of such calls may run at once. No loan is kept, and each goes to one call.
  * - The proved calls want pointers that aren't null, also if the length is 0. They get an address that nobody follows.
  * - The proved calls have the pairs of compose keys as bytes: four for each number, the lowest first, as on x86-64.
+ *   More than 256 pairs are 257 there, so that the number of bytes doesn't overflow.
  * - The proved calls have the name of a call as its bytes and their number: strlen counts them.
  *
  * Nothing else is done here. */
 #include "vt.h"
 
 #include <string.h>
+
+enum { MOST_PAIRS = 256 };
 
 /* The proved calls that want pointers that aren't null. */
 uint8_t vt_nonnull_screen_feed(struct vt_screen *s, const uint8_t *bytes, size_t n, struct vt_out *outs, size_t room,
@@ -206,11 +209,17 @@ uint8_t vt_keys_keycode(const struct vt_keys *k, uint32_t scan, uint32_t *keycod
     return vt_lent_keys_keycode(&loan, scan, keycode);
 }
 
+/* The bytes of so many pairs, as far as there may be any. */
+static size_t bytes_of(size_t pairs)
+{
+    return (pairs <= MOST_PAIRS ? pairs : MOST_PAIRS + 1) * sizeof(struct vt_pair);
+}
+
 uint8_t vt_keys_pairs(const struct vt_keys *k, struct vt_pair *pairs, size_t room, size_t *count)
 {
     struct vt_keys loan = *k;
     size_t length;
-    uint8_t code = vt_lent_keys_pairs(&loan, written_at(pairs), room * sizeof *pairs, &length);
+    uint8_t code = vt_lent_keys_pairs(&loan, written_at(pairs), bytes_of(room), &length);
     if (code == VT_OK || code == VT_NO_ROOM)
         *count = length / sizeof *pairs;
     return code;
@@ -218,7 +227,7 @@ uint8_t vt_keys_pairs(const struct vt_keys *k, struct vt_pair *pairs, size_t roo
 
 uint8_t vt_keys_set_pairs(struct vt_keys *k, const struct vt_pair *pairs, size_t count)
 {
-    return vt_nonnull_keys_set_pairs(k, read_at(pairs), count * sizeof *pairs);
+    return vt_nonnull_keys_set_pairs(k, read_at(pairs), bytes_of(count));
 }
 
 uint8_t vt_machine_new(struct vt_machine *m, const struct vt_start *start, const struct vt_seat *seats, size_t count,

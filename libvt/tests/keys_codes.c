@@ -283,6 +283,9 @@ static void try_pairs(void)
         many[i] = (struct vt_pair){ (uint32_t)i, 1, 2 };
     WANT(vt_keys_set_pairs(&k, many, 257) == VT_RANGE && vt_keys_set_pairs(&k, many, 256) == VT_OK);
     WANT(vt_keys_pairs(&k, many, 255, &count) == VT_NO_ROOM && count == 256);
+    /* (their bytes are more than a size_t counts) */
+    WANT(vt_keys_set_pairs(&k, many, SIZE_MAX / 4 + 2) == VT_RANGE);
+    WANT(vt_keys_pairs(&k, many, SIZE_MAX / 4 + 1, &count) == VT_OK && count == 256);
     WANT(vt_keys_set_pairs(&k, NULL, 0) == VT_OK && vt_keys_pairs(&k, NULL, 0, &count) == VT_OK && count == 0);
     vt_keys_free(&k);
 }

@@ -1,18 +1,32 @@
 /* The requests of the control socket, and their answers. docs/reference/vtrun.md has them in a table. */
 #include "control.h"
+#include <limits.h>
 #include <stdlib.h>
 #include <string.h>
 
-enum { MOST_WORDS = 1024, PROGRAMS = 4096, RUNS = -1, MOST_MS = 86400000, FIRST_FORM = 0 };
+enum { MOST_WORDS = 1024, MORE_PROGRAMS = 1024, RUNS = -1, MOST_MS = 86400000, MOST_ROWS = 255 };
 
 /* The statuses of the programs that were started, by their numbers. */
-static int statuses[PROGRAMS];
-static unsigned programs;
+static int *statuses;
+static unsigned programs, room;
 
 void program_ended(unsigned number, int how)
 {
-    if (number < PROGRAMS)
+    if (number <= programs)
         statuses[number] = how;
+}
+
+/* Whether there is room for the status of one more program. */
+static bool has_room(void)
+{
+    if (programs + 1 < room)
+        return true;
+    int *more = realloc(statuses, (room + MORE_PROGRAMS) * sizeof *more);
+    if (!more)
+        return false;
+    statuses = more;
+    room += MORE_PROGRAMS;
+    return true;
 }
 
 static const char *const long_forms[] = { "type ", "wait text ", "run " };
@@ -36,7 +50,7 @@ static bool take_number(const char **at, long most, long *number)
     if (**at < '0' || **at > '9')
         return false;
     *number = strtol(*at, &end, 10);
-    *at = *end == ' ' ? end + 1 : end;
+    *at = *end == ' ' && end[1] ? end + 1 : end;
     return *number <= most && (*end == ' ' || *end == '\0');
 }
 
@@ -55,6 +69,16 @@ static bool take_console(struct client *it, const char **at, unsigned *n)
         return true;
     reply_no(it, "console %u isn't allocated", *n);
     return false;
+}
+
+/* Reads a console that is the last word. */
+static bool take_last_console(struct client *it, const char *form, const char *rest, unsigned *n)
+{
+    if (!take_console(it, &rest, n))
+        return false;
+    if (*rest)
+        reply_no(it, "`%s` was wanted", form);
+    return !*rest;
 }
 
 static void show_front(struct client *it, const char *rest, const char *body, size_t length)
@@ -88,7 +112,11 @@ static void list_consoles(struct client *it, const char *rest, const char *body,
 static void type_body(struct client *it, const char *rest, const char *body, size_t length)
 {
     size_t fault;
-    (void)rest;
+    long size;
+    if (!take_number(&rest, MOST_BODY, &size) || *rest) {
+        reply_no(it, "`type LENGTH` was wanted");
+        return;
+    }
     bool is_typed = type_text(body, length, &fault);
     hand_over();
     if (is_typed)
@@ -103,15 +131,14 @@ static void scan_bytes(struct client *it, const char *rest, const char *body, si
     uint8_t bytes[MOST_LINE / 2];
     size_t n = 0;
     (void)body, (void)length;
-    for (const char *at = rest; *at;) {
-        char *end;
-        unsigned long byte = strtoul(at, &end, 16);
-        if (end != at + 2 || (*end && *end != ' ') || strchr("+-xX ", at[0]) || n == sizeof bytes) {
+    for (const char *at = rest;; at += 3) {
+        if (strspn(at, "0123456789abcdefABCDEF") != 2 || (at[2] && at[2] != ' ')) {
             reply_no(it, "%s: bytes of two hexadecimal digits were wanted", at);
             return;
         }
-        bytes[n++] = (uint8_t)byte;
-        at = *end ? end + 1 : end;
+        bytes[n++] = (uint8_t)strtoul(at, NULL, 16);
+        if (!at[2])
+            break;
     }
     scan(bytes, n);
     hand_over();
@@ -123,7 +150,7 @@ static void snap(struct client *it, const char *rest, const char *body, size_t l
     static char text[MOST_TEXT];
     unsigned n;
     (void)body, (void)length;
-    if (take_console(it, &rest, &n))
+    if (take_last_console(it, "snap N", rest, &n))
         reply_ok(it, text, screen_text(n, text, sizeof text));
 }
 
@@ -135,18 +162,23 @@ static void show_row(struct client *it, const char *rest, const char *body, size
     (void)body, (void)length;
     if (!take_console(it, &rest, &n))
         return;
-    size_t found = take_number(&rest, 254, &row) ? row_text(n, (unsigned)row, text, sizeof text) : 0;
+    bool is_right = take_number(&rest, LONG_MAX, &row) && !*rest;
+    if (!is_right) {
+        reply_no(it, "`row N R` was wanted");
+        return;
+    }
+    size_t found = row < MOST_ROWS ? row_text(n, (unsigned)row, text, sizeof text) : 0;
     if (found)
         reply_ok(it, text, found);
     else
         reply_no(it, "the screen of console %u has no such row", n);
 }
 
-static void draw_with(struct client *it, const char *rest, char *(*draw)(unsigned, size_t *))
+static void draw_with(struct client *it, const char *form, const char *rest, char *(*draw)(unsigned, size_t *))
 {
     unsigned n;
     size_t length;
-    if (!take_console(it, &rest, &n))
+    if (!take_last_console(it, form, rest, &n))
         return;
     char *text = draw(n, &length);
     if (text)
@@ -159,13 +191,13 @@ static void draw_with(struct client *it, const char *rest, char *(*draw)(unsigne
 static void redraw(struct client *it, const char *rest, const char *body, size_t length)
 {
     (void)body, (void)length;
-    draw_with(it, rest, screen_redraw);
+    draw_with(it, "redraw N", rest, screen_redraw);
 }
 
 static void svg(struct client *it, const char *rest, const char *body, size_t length)
 {
     (void)body, (void)length;
-    draw_with(it, rest, screen_picture);
+    draw_with(it, "svg N", rest, screen_picture);
 }
 
 static void wait_for(struct client *it, enum awaited awaited, long what, long ms)
@@ -204,7 +236,7 @@ static void wait_text(struct client *it, const char *rest, const char *body, siz
 {
     long n, ms, size;
     if (!take_number(&rest, CONSOLES - 1, &n) || !take_number(&rest, MOST_MS, &ms) ||
-        !take_number(&rest, MOST_BODY, &size)) {
+        !take_number(&rest, MOST_BODY, &size) || *rest) {
         reply_no(it, "`wait text N MS LENGTH` was wanted");
         return;
     }
@@ -275,8 +307,8 @@ static void run(struct client *it, const char *rest, const char *body, size_t le
         reply_no(it, "`run N LENGTH` was wanted, and words with a null byte after each");
         return;
     }
-    if (programs == PROGRAMS - 1 || !run_program((unsigned)n, words, programs + 1)) {
-        reply_no(it, "no program can be started");
+    if (!has_room() || !run_program((unsigned)n, words, programs + 1)) {
+        reply_no(it, "no program can be started: %s", strerror(errno));
         return;
     }
     statuses[++programs] = RUNS;
@@ -338,35 +370,39 @@ static void end(struct client *it, const char *rest, const char *body, size_t le
 static const struct {
     const char *words;
     void (*serve)(struct client *, const char *, const char *, size_t);
+    bool is_alone; /* whether no words follow */
 } forms[] = {
-    { "hello", hello },
-    { "front", show_front },
-    { "consoles", list_consoles },
-    { "type", type_body },
-    { "scan", scan_bytes },
-    { "snap", snap },
-    { "row", show_row },
-    { "redraw", redraw },
-    { "svg", svg },
-    { "wait front", wait_front },
-    { "wait owner", wait_owner },
-    { "wait text", wait_text },
-    { "wait program", wait_program },
-    { "run", run },
-    { "processes", show_processes },
-    { "journal", show_journal },
-    { "attach", attach },
-    { "end", end },
+    { "hello", hello, true },
+    { "front", show_front, true },
+    { "consoles", list_consoles, true },
+    { "type", type_body, false },
+    { "scan", scan_bytes, false },
+    { "snap", snap, false },
+    { "row", show_row, false },
+    { "redraw", redraw, false },
+    { "svg", svg, false },
+    { "wait front", wait_front, false },
+    { "wait owner", wait_owner, false },
+    { "wait text", wait_text, false },
+    { "wait program", wait_program, false },
+    { "run", run, false },
+    { "processes", show_processes, true },
+    { "journal", show_journal, true },
+    { "attach", attach, false },
+    { "end", end, true },
 };
 
 void serve_line(struct client *it, char *line, const char *body, size_t length)
 {
     for (size_t i = 0; i < sizeof forms / sizeof *forms; i++) {
         size_t n = strlen(forms[i].words);
-        if (strncmp(line, forms[i].words, n) == 0 && (line[n] == ' ' || line[n] == '\0')) {
+        if (strncmp(line, forms[i].words, n) || (line[n] != ' ' && line[n] != '\0'))
+            continue;
+        if (forms[i].is_alone && line[n])
+            reply_no(it, "`%s` was wanted, with no words after it", forms[i].words);
+        else
             forms[i].serve(it, line[n] ? line + n + 1 : line + n, body, length);
-            return;
-        }
+        return;
     }
     reply_no(it, "%.60s: no such request", line);
 }

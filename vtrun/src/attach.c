@@ -11,7 +11,9 @@
 enum { LEAVE = 0x1d, PIECE = 65536 };
 
 static struct termios before;
-static volatile sig_atomic_t is_resized;
+static volatile sig_atomic_t is_taken;
+static sigset_t while_polling;
+static volatile sig_atomic_t is_resized; /* (a signal comes in a poll alone: so no poll begins after one was missed) */
 
 static void write_all(int fd, const char *bytes, size_t n)
 {
@@ -29,6 +31,9 @@ static void write_all(int fd, const char *bytes, size_t n)
 static void restore(void)
 {
     static const char end[] = "\033[0m\033[2J\033[H\033[?25h\033[?1049l";
+    if (!is_taken)
+        return;
+    is_taken = 0;
     write_all(STDOUT_FILENO, end, sizeof end - 1);
     tcsetattr(STDIN_FILENO, TCSADRAIN, &before);
 }
@@ -49,18 +54,28 @@ static void on_resize(int number)
 void take_terminal(void)
 {
     static const char begin[] = "\033[?1049h\033[2J";
+    static const int ends[] = { SIGINT, SIGQUIT, SIGTERM, SIGHUP };
     struct sigaction action = { .sa_handler = on_resize };
     struct termios raw;
+    sigset_t resize;
     if (tcgetattr(STDIN_FILENO, &before))
         stop(2, "standard input has to be a terminal");
     raw = before;
     cfmakeraw(&raw);
     tcsetattr(STDIN_FILENO, TCSADRAIN, &raw);
-    signal(SIGTERM, on_signal);
-    signal(SIGHUP, on_signal);
+    for (size_t i = 0; i < sizeof ends / sizeof *ends; i++)
+        signal(ends[i], on_signal);
+    /* (a key that vtrun doesn't take any more must not end this before the terminal is as it was) */
+    signal(SIGPIPE, SIG_IGN);
     sigaction(SIGWINCH, &action, NULL);
+    sigemptyset(&resize);
+    sigaddset(&resize, SIGWINCH);
+    sigprocmask(SIG_BLOCK, &resize, &while_polling);
+    sigdelset(&while_polling, SIGWINCH);
     write_all(STDOUT_FILENO, begin, sizeof begin - 1);
+    is_taken = 1;
     atexit(restore);
+    before_stop = restore;
 }
 
 /* Hands on what is typed. False if it was Ctrl+], or the terminal is gone. */
@@ -82,7 +97,7 @@ bool show_consoles(int fd)
     struct pollfd both[2] = { { STDIN_FILENO, POLLIN, 0 }, { fd, POLLIN, 0 } };
     is_resized = 0;
     for (;;) {
-        int count = poll(both, 2, -1);
+        int count = ppoll(both, 2, NULL, &while_polling);
         if (is_resized)
             return true;
         if (count < 0)

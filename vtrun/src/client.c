@@ -1,8 +1,8 @@
 /* The other side: `vtrun front`, `vtrun type ..`. Each word sends one request to the vtrun whose socket is in
  * VTRUN_SOCKET, or named by --socket, and prints its answer.
  *
- * Statuses: 0 done; 1 it isn't so, or didn't come in time; 2 the words aren't of the form; 3 no vtrun is there. `run`
- * has that of its program. */
+ * Statuses: 0 done; 1 it isn't so, or didn't come in time; 2 the words aren't of the form; 3 no vtrun is there, or the
+ * answer can't be written. `run` has that of its program. */
 #include "vtrun.h"
 #include <stdlib.h>
 #include <string.h>
@@ -12,7 +12,16 @@
 #include <termios.h>
 #include <unistd.h>
 
-enum { DEFAULT_SECONDS = 10, MOST_SECONDS = 86400, MOST_BODY = 65536, NO_CLIENT = -1, A_DAY = 86400000 };
+enum {
+    DEFAULT_SECONDS = 10,
+    MOST_SECONDS = 86400,
+    MOST_LINE = 4096,
+    MOST_BODY = 65536,
+    MOST_ROW = 254,
+    NO_CLIENT = -1,
+    A_DAY = 86400000,
+    UNWRITTEN = 3
+};
 
 static const char *socket_path; /* that was given, or NULL */
 static int control_fd = -1;
@@ -35,6 +44,13 @@ static void connect_to(const char *path)
         stop(3, "memory ran out");
 }
 
+/* (before it is known that the words are of the form, no vtrun is looked for) */
+static void connect_once(void)
+{
+    if (control_fd < 0)
+        connect_to(socket_path);
+}
+
 static void send_all(const char *bytes, size_t n)
 {
     while (n > 0) {
@@ -50,6 +66,7 @@ static void send_all(const char *bytes, size_t n)
 static bool ask(const char *line, const char *body, size_t n, char **bytes, size_t *length)
 {
     char word[8];
+    connect_once();
     send_all(line, strlen(line));
     send_all("\n", 1);
     send_all(body, n);
@@ -69,7 +86,7 @@ static int show(const char *line, const char *body, size_t n)
     size_t length;
     bool is_ok = ask(line, body, n, &bytes, &length);
     if (is_ok)
-        fwrite(bytes, 1, length, stdout);
+        print(bytes, length, UNWRITTEN);
     else
         fprintf(stderr, "vtrun: %s\n", bytes);
     free(bytes);
@@ -80,19 +97,15 @@ static long seconds_of(const char *word)
 {
     char *end;
     double n = word ? strtod(word, &end) : DEFAULT_SECONDS;
-    if (word && (*end || !(n >= 0 && n <= MOST_SECONDS)))
+    if (word && (end == word || *end || !(n >= 0 && n <= MOST_SECONDS)))
         stop(2, "%s: seconds were wanted, up to 86400", word);
     return (long)(n * 1000);
 }
 
-/* Joins words with blanks after a first part. */
-static void join(char *line, size_t room, char **words)
+/* A console by its number, from a least one on. */
+static unsigned console_of(const char *word, unsigned least)
 {
-    for (; *words; words++) {
-        size_t n = strlen(line);
-        if (strchr(*words, '\n') || snprintf(line + n, room - n, " %s", *words) >= (int)(room - n))
-            stop(2, "%s: the words are too long", *words);
-    }
+    return number_of(word, "console", least, CONSOLES - 1);
 }
 
 static int wait_for(char **words, int count)
@@ -100,13 +113,14 @@ static int wait_for(char **words, int count)
     char line[256];
     if (count >= 3 && count <= 4 && (strcmp(words[1], "front") == 0 || strcmp(words[1], "owner") == 0)) {
         long ms = seconds_of(count > 3 ? words[3] : NULL);
-        snprintf(line, sizeof line, "wait %s %.16s %ld", words[1], words[2], ms);
+        snprintf(line, sizeof line, "wait %s %u %ld", words[1], console_of(words[2], 1), ms);
         return show(line, NULL, 0);
     }
     if (count < 4 || count > 5 || strcmp(words[1], "text"))
         stop(2, "`vtrun wait front N [SECONDS]`, `wait owner N [SECONDS]` or `wait text N TEXT [SECONDS]` was wanted");
     size_t n = strlen(words[3]);
-    snprintf(line, sizeof line, "wait text %.16s %ld %zu", words[2], seconds_of(count > 4 ? words[4] : NULL), n);
+    long ms = seconds_of(count > 4 ? words[4] : NULL);
+    snprintf(line, sizeof line, "wait text %u %ld %zu", console_of(words[2], 0), ms, n);
     return show(line, words[3], n);
 }
 
@@ -121,15 +135,18 @@ static int type_words(char **words, int count)
 
 static int snap(char **words, int count)
 {
-    const char *form = "snap", *console = "0";
+    const char *form = NULL, *console = NULL;
     char line[64];
     for (int i = 1; i < count; i++) {
-        if (strcmp(words[i], "--redraw") == 0 || strcmp(words[i], "--svg") == 0)
+        bool is_form = strcmp(words[i], "--redraw") == 0 || strcmp(words[i], "--svg") == 0;
+        if (is_form ? form != NULL : console != NULL || words[i][0] == '-')
+            stop(2, "`vtrun snap [N] [--redraw | --svg]` was wanted");
+        if (is_form)
             form = words[i] + 2;
         else
             console = words[i];
     }
-    snprintf(line, sizeof line, "%s %.16s", form, console);
+    snprintf(line, sizeof line, "%s %u", form ? form : "snap", console ? console_of(console, 0) : 0);
     return show(line, NULL, 0);
 }
 
@@ -148,7 +165,10 @@ static int run(char **words, int count)
         memcpy(body + n, words[i], size);
         n += size;
     }
-    snprintf(line, sizeof line, "run %.16s %zu", words[1], n);
+    if (strcmp(words[1], "-") == 0)
+        snprintf(line, sizeof line, "run - %zu", n);
+    else
+        snprintf(line, sizeof line, "run %u %zu", console_of(words[1], 1), n);
     if (!ask(line, body, n, &bytes, &length))
         stop(1, "%s", bytes);
     snprintf(line, sizeof line, "wait program %.16s %d", strtok(bytes, "\n"), A_DAY);
@@ -158,13 +178,37 @@ static int run(char **words, int count)
     return atoi(bytes);
 }
 
-/* Tells the rest of a request as it stands: `vtrun row 1 3`, `vtrun scan 1e 9e`. */
+/* Tells a word that stands alone. */
 static int tell(char **words, int count)
 {
-    char line[4096];
-    (void)count;
-    snprintf(line, sizeof line, "%s", words[0]);
-    join(line, sizeof line, words + 1);
+    if (count != 1)
+        stop(2, "`vtrun %s` was wanted", words[0]);
+    return show(words[0], NULL, 0);
+}
+
+static int show_row(char **words, int count)
+{
+    char line[64];
+    if (count != 3)
+        stop(2, "`vtrun row N R` was wanted");
+    snprintf(line, sizeof line, "row %u %u", console_of(words[1], 0), number_of(words[2], "row", 0, MOST_ROW));
+    return show(line, NULL, 0);
+}
+
+/* Scan bytes of two hexadecimal digits. */
+static int scan_words(char **words, int count)
+{
+    char line[MOST_LINE];
+    size_t n = (size_t)snprintf(line, sizeof line, "scan");
+    if (count < 2)
+        stop(2, "`vtrun scan HH ..` was wanted");
+    for (int i = 1; i < count; i++) {
+        if (strlen(words[i]) != 2 || strspn(words[i], "0123456789abcdefABCDEF") != 2)
+            stop(2, "%s: a byte of two hexadecimal digits was wanted", words[i]);
+        if (n + 4 > sizeof line)
+            stop(2, "at most %d scan bytes were wanted", (MOST_LINE - 5) / 3);
+        n += (size_t)snprintf(line + n, sizeof line - n, " %s", words[i]);
+    }
     return show(line, NULL, 0);
 }
 
@@ -177,6 +221,7 @@ static int attach(char **words, int count)
         stop(2, "`vtrun attach` was wanted");
     if (!isatty(STDIN_FILENO) || !isatty(STDOUT_FILENO))
         stop(2, "standard input and output have to be a terminal");
+    connect_once();
     take_terminal();
     do {
         struct winsize size = { .ws_row = 25, .ws_col = 80 };
@@ -197,9 +242,9 @@ int be_client(int count, char **words)
         const char *name;
         int (*serve)(char **, int);
     } rows[] = {
-        { "attach", attach }, { "type", type_words }, { "scan", tell },    { "front", tell },
-        { "wait", wait_for }, { "snap", snap },       { "run", run },      { "row", tell },
-        { "consoles", tell }, { "processes", tell },  { "journal", tell }, { "end", tell },
+        { "attach", attach }, { "type", type_words }, { "scan", scan_words }, { "front", tell },
+        { "wait", wait_for }, { "snap", snap },       { "run", run },         { "row", show_row },
+        { "consoles", tell }, { "processes", tell },  { "journal", tell },    { "end", tell },
     };
     int at = 1;
     if (count > 3 && strcmp(words[1], "--socket") == 0) {
@@ -207,9 +252,7 @@ int be_client(int count, char **words)
         at = 3;
     }
     for (size_t i = 0; at < count && i < sizeof rows / sizeof *rows; i++)
-        if (strcmp(words[at], rows[i].name) == 0) {
-            connect_to(socket_path);
+        if (strcmp(words[at], rows[i].name) == 0)
             return rows[i].serve(words + at, count - at);
-        }
     return NO_CLIENT;
 }

@@ -18,6 +18,7 @@ static struct client clients[CLIENTS];
 static char folder[] = "/tmp/vtrun.XXXXXX";
 static char path[sizeof(((struct sockaddr_un *)NULL)->sun_path)];
 static int64_t frame_at;
+static bool has_folder, is_bound;
 
 static void name_socket(void)
 {
@@ -25,6 +26,7 @@ static void name_socket(void)
     const struct passwd *user = options.user ? getpwnam(options.user) : NULL;
     if (!wanted && !mkdtemp(folder))
         stop(126, "%s: %s", folder, strerror(errno));
+    has_folder = !wanted;
     if (!wanted && user && chown(folder, user->pw_uid, user->pw_gid))
         stop(126, "%s: %s", folder, strerror(errno));
     int n = wanted ? snprintf(path, sizeof path, "%s", wanted) : snprintf(path, sizeof path, "%s/control", folder);
@@ -35,8 +37,9 @@ static void name_socket(void)
 /* The socket is taken away when vtrun ends, but not if it is killed. */
 static void close_control(void)
 {
-    unlink(path);
-    if (!options.socket)
+    if (is_bound)
+        unlink(path);
+    if (has_folder)
         rmdir(folder);
 }
 
@@ -45,17 +48,18 @@ void open_control(void)
     struct sockaddr_un address = { .sun_family = AF_UNIX };
     for (unsigned i = 0; i < CLIENTS; i++)
         clients[i].fd = -1;
+    atexit(close_control);
     name_socket();
     memcpy(address.sun_path, path, sizeof path);
     control = socket(AF_UNIX, SOCK_STREAM | SOCK_CLOEXEC | SOCK_NONBLOCK, 0);
     mode_t before = umask(0077);
-    if (control < 0 || bind(control, (struct sockaddr *)&address, sizeof address) || listen(control, CLIENTS))
+    is_bound = control >= 0 && bind(control, (struct sockaddr *)&address, sizeof address) == 0;
+    if (!is_bound || listen(control, CLIENTS))
         stop(126, "%s: %s", path, strerror(errno));
     umask(before);
     const struct passwd *user = options.user ? getpwnam(options.user) : NULL;
     if (user && chown(path, user->pw_uid, user->pw_gid))
         stop(126, "%s: %s", path, strerror(errno));
-    atexit(close_control);
     setenv("VTRUN_SOCKET", path, 1);
     watch(control, OF_CONTROL, 0, EPOLLIN);
 }
@@ -84,24 +88,28 @@ void accept_client(void)
         close(fd);
         return;
     }
-    clients[i] = (struct client){ .fd = fd, .in = in };
+    clients[i] = (struct client){ .fd = fd, .in = in, .watched = EPOLLIN };
     watch(fd, OF_CLIENT, i, EPOLLIN);
 }
 
-/* Sends what can be sent. The loop tells when there is room again. */
+/* The loop tells when there is room for what isn't sent, or more to read, if it has a place. It always tells a hang-up. */
+static void watch_client(struct client *it)
+{
+    uint32_t events = it->out_length ? EPOLLOUT : it->in_length < ROOM && !it->has_ended ? EPOLLIN : 0;
+    if (events != it->watched)
+        watch_again(it->fd, OF_CLIENT, (unsigned)(it - clients), events);
+    it->watched = events;
+}
+
+/* Sends what can be sent. */
 static void send_out(struct client *it)
 {
-    unsigned i = (unsigned)(it - clients);
     while (it->out_at < it->out_length) {
         ssize_t n = send(it->fd, it->out + it->out_at, it->out_length - it->out_at, MSG_NOSIGNAL | MSG_DONTWAIT);
         if (n < 0 && errno == EINTR)
             continue;
-        if (n < 0 && errno != EAGAIN) {
-            it->is_over = true;
-            return;
-        }
         if (n < 0) {
-            watch_again(it->fd, OF_CLIENT, i, EPOLLOUT);
+            it->is_over = errno != EAGAIN;
             return;
         }
         it->out_at += (size_t)n;
@@ -109,7 +117,6 @@ static void send_out(struct client *it)
     free(it->out);
     it->out = NULL;
     it->out_length = it->out_at = 0;
-    watch_again(it->fd, OF_CLIENT, i, EPOLLIN);
 }
 
 static void add_out(struct client *it, const void *bytes, size_t n)
@@ -170,7 +177,10 @@ static bool serve_next(struct client *it)
         return false;
     }
     size_t length = body > 0 ? (size_t)body : 0;
-    serve_line(it, it->in, it->in + line, length);
+    if (strlen(it->in) == line - 1)
+        serve_line(it, it->in, it->in + line, length);
+    else
+        reply_no(it, "a line without null bytes was wanted");
     it->in_length -= line + length;
     memmove(it->in, it->in + line + length, it->in_length);
     return true;
@@ -186,9 +196,32 @@ static void serve_all(struct client *it)
     while (is_ready(it) && !it->is_attached && it->in_length && serve_next(it))
         ;
     if (it->is_attached && it->in_length) {
-        type_terminal((const uint8_t *)it->in, it->in_length);
-        it->in_length = 0;
+        size_t typed = type_terminal((const uint8_t *)it->in, it->in_length);
+        it->in_length -= typed;
+        memmove(it->in, it->in + typed, it->in_length);
     }
+}
+
+/* Reads what came. */
+static void read_in(struct client *it)
+{
+    ssize_t n = recv(it->fd, it->in + it->in_length, ROOM - it->in_length, MSG_DONTWAIT);
+    if (n > 0)
+        it->in_length += (size_t)n;
+    else if (n == 0)
+        it->has_ended = true;
+    else
+        it->is_over = errno != EAGAIN && errno != EINTR;
+}
+
+/* Serves what can be served now, and closes a connection that is over. */
+static void settle(struct client *it)
+{
+    serve_all(it);
+    if (it->is_over || (it->has_ended && it->awaited == NOT_WAITING && it->out_length == 0))
+        close_client(it);
+    else
+        watch_client(it);
 }
 
 void serve_client(unsigned i, uint32_t events)
@@ -198,16 +231,11 @@ void serve_client(unsigned i, uint32_t events)
         return;
     if (events & EPOLLOUT)
         send_out(it);
-    if (events & (EPOLLIN | EPOLLHUP | EPOLLERR)) {
-        ssize_t n = it->in_length < ROOM ? recv(it->fd, it->in + it->in_length, ROOM - it->in_length, MSG_DONTWAIT) : 0;
-        if (n > 0)
-            it->in_length += (size_t)n;
-        else if (n == 0 || (errno != EAGAIN && errno != EINTR))
-            it->is_over = true;
-    }
-    serve_all(it);
-    if (it->is_over)
-        close_client(it);
+    if (events & EPOLLIN && it->in_length < ROOM)
+        read_in(it);
+    else if (events & (EPOLLHUP | EPOLLERR))
+        it->is_over = true;
+    settle(it);
 }
 
 /* Whether a terminal shows what it should, or can't be sent more now. */
@@ -242,9 +270,7 @@ void look_at_clients(void)
             if (now >= frame_at)
                 send_frame(it);
         }
-        serve_all(it);
-        if (it->is_over)
-            close_client(it);
+        settle(it);
     }
     if (now >= frame_at && now)
         frame_at = now + FRAME_MS;

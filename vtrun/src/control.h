@@ -20,6 +20,8 @@ struct client {
     size_t text_length;
     uint32_t changes; /* of the console, when its text was looked for */
     bool is_attached, is_over;
+    bool has_ended;   /* nothing more comes: what it waits for is answered all the same */
+    uint32_t watched; /* what the loop tells of it */
     struct shown shown;
 };
 

@@ -30,7 +30,7 @@ static void control_watch(int how, int fd, enum source source, unsigned i, uint3
     struct epoll_event it = { .events = events, .data.u64 = (uint64_t)source << 32 | i };
     if (poller < 0)
         poller = epoll_create1(EPOLL_CLOEXEC);
-    if (epoll_ctl(poller, how, fd, &it))
+    if (poller < 0 || epoll_ctl(poller, how, fd, &it))
         stop(126, "a descriptor can't be watched: %s", strerror(errno));
 }
 
@@ -149,6 +149,8 @@ static void start_signals(void)
         sigaddset(&set, numbers[i]);
     sigprocmask(SIG_BLOCK, &set, NULL);
     signals = signalfd(-1, &set, SFD_CLOEXEC | SFD_NONBLOCK);
+    if (signals < 0)
+        stop(126, "signals can't be received: %s", strerror(errno));
     watch(signals, OF_SIGNALS, 0, EPOLLIN);
 }
 
@@ -162,6 +164,8 @@ int serve(void)
         deadline = now_ms() + (int64_t)options.seconds * 1000;
     while (!is_ending) {
         int count = epoll_wait(poller, events, EVENTS, sleep_ms(has_more));
+        if (count < 0 && errno != EINTR)
+            stop(126, "events can't be received: %s", strerror(errno));
         for (int turn = 0; turn <= LAST_TURN; turn++)
             for (int i = 0; i < count; i++)
                 if (turn_of(&events[i]) == turn)

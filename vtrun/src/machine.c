@@ -4,6 +4,7 @@
 #include <stdlib.h>
 #include <string.h>
 
+/* A call causes at most so many marks: `few` of `World::trace` in crates/vt_world is proved. */
 enum { MOST_MARKS = 3072, KEPT_ENTRIES = 256, FULL_CHARGE = 1 << 30 };
 
 struct vt_machine machine;
@@ -56,7 +57,7 @@ void make_machine(void)
     start.front = (uint8_t)(front = lowest(options.consoles));
     unsigned code = vt_machine_new(&machine, &start, homes, SEATS - 1, (const uint8_t *)keymap, length, &fault);
     if (code == VT_FAULT)
-        stop(2, "%s:%u:%u: fault %u of a keymap (docs/reference/codes.md)", options.keymap, fault.line, fault.column,
+        stop(2, "%s:%u:%u: fault %u of a keymap (vt-keymap(5), DIAGNOSTICS)", options.keymap, fault.line, fault.column,
              fault.kind);
     if (code != VT_OK)
         stop(126, "no machine: %s", code == VT_NO_MEMORY ? "memory ran out" : "a number is out of its range");
@@ -69,8 +70,9 @@ void make_machine(void)
 static void follow_marks(void)
 {
     size_t count = 0;
-    vt_machine_marks(&machine, marks, MOST_MARKS, &count);
-    for (size_t i = 0; i < count && i < MOST_MARKS; i++) {
+    if (vt_machine_marks(&machine, marks, MOST_MARKS, &count) != VT_OK || count > MOST_MARKS)
+        stop(126, "a call caused %zu marks, more than are followed", count);
+    for (size_t i = 0; i < count; i++) {
         const struct vt_mark *it = &marks[i];
         if (it->kind == VT_MARK_RAISED && it->a >= 1 && it->a < SEATS) {
             raise_signal(it->a, it->b);

@@ -20,24 +20,23 @@ static void raise_limits(void)
     setrlimit(RLIMIT_NOFILE, &limit);
 }
 
-/* Standard streams that are closed would be taken by files of vtrun. */
+/* Standard streams that are closed would be taken by files of vtrun. A read or write of one fails all the same. */
 static void open_streams(void)
 {
     for (int fd = 0; fd < 3; fd++)
-        if (fcntl(fd, F_GETFD) < 0 && open("/dev/null", O_RDWR) != fd)
+        if (fcntl(fd, F_GETFD) < 0 && open("/dev/null", fd ? O_RDONLY : O_WRONLY) != fd)
             stop(126, "/dev/null can't be opened");
 }
 
-/* The user who is to run the command is there, and gets the consoles. */
-static void find_user(void)
+/* The user who is to run the command is there: the user's number, or that of the caller. */
+static uid_t find_user(void)
 {
     const struct passwd *user = options.user ? getpwnam(options.user) : NULL;
     if (options.user && !user)
         stop(2, "--user %s: no such user", options.user);
-    if (user && geteuid() == 0)
-        give_console(options.on ? options.on : 1, user->pw_uid);
-    else if (user && user->pw_uid != geteuid())
+    if (user && geteuid() && user->pw_uid != geteuid())
         stop(2, "--user %s: only root may run a command as another user", options.user);
+    return user ? user->pw_uid : geteuid();
 }
 
 int main(int count, char **words)
@@ -48,12 +47,15 @@ int main(int count, char **words)
         return client;
     read_options(count, words);
     signal(SIGPIPE, SIG_IGN);
+    signal(SIGXFSZ, SIG_IGN); /* (a journal that may grow no more is one that can't be written) */
     raise_limits();
     start_seats();
-    open_journal();
+    uid_t user = find_user();
     make_machine();
+    open_journal(); /* (a file that is there is emptied, but not if the words aren't of the form) */
     make_consoles();
-    find_user();
+    if (options.user && geteuid() == 0)
+        give_console(options.on ? options.on : 1, user);
     open_control();
     start_starter();
     /* Console 1 is the command's terminal, so it stays open as long as the command runs. */

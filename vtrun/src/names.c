@@ -23,6 +23,7 @@ struct stroke {
 
 size_t read_character(const uint8_t *bytes, size_t n, unsigned *character)
 {
+    static const unsigned least[] = { 0, 0, 0x80, 0x800, 0x10000 };
     unsigned first = n ? bytes[0] : 0x80;
     size_t length = first < 0x80                    ? 1
                     : first >= 0xf0 && first < 0xf5 ? 4
@@ -37,6 +38,8 @@ size_t read_character(const uint8_t *bytes, size_t n, unsigned *character)
             return 0;
         found = found << 6 | (bytes[i] & 0x3f);
     }
+    if (found < least[length] || found > 0x10ffff || (found >= 0xd800 && found < 0xe000))
+        return 0;
     *character = found;
     return length;
 }

@@ -29,8 +29,10 @@ static bool receive_start(void)
     int fds[CONSOLES], at = 1;
     struct iovec part = { &bound, sizeof bound };
     struct msghdr message = { .msg_iov = &part, .msg_iovlen = 1, .msg_control = room, .msg_controllen = sizeof room };
-    if (recvmsg(starter, &message, MSG_CMSG_CLOEXEC) != sizeof bound || !CMSG_FIRSTHDR(&message))
+    if (recvmsg(starter, &message, MSG_CMSG_CLOEXEC) != sizeof bound)
         return false;
+    if (message.msg_flags & MSG_CTRUNC || !CMSG_FIRSTHDR(&message))
+        stop(126, "the consoles can't be taken: %s", strerror(EMFILE));
     size_t length = CMSG_FIRSTHDR(&message)->cmsg_len - CMSG_LEN(0);
     memcpy(fds, CMSG_DATA(CMSG_FIRSTHDR(&message)), length);
     listener = fds[0];
@@ -52,10 +54,12 @@ void start_starter(void)
     starter_pid = fork();
     if (starter_pid == 0)
         be_starter(pair[1]);
+    if (starter_pid < 0)
+        stop(126, "no process can be started: %s", strerror(errno));
     close(pair[1]);
     starter = pair[0];
-    if (starter_pid < 0 || !receive_start())
-        stop(126, "the programs can't be started");
+    if (!receive_start())
+        stop(126, "the programs can't be started"); /* (the starter has said why) */
     uint64_t flags = SECCOMP_USER_NOTIF_FD_SYNC_WAKE_UP;
     ioctl(listener, SECCOMP_IOCTL_NOTIF_SET_FLAGS, flags);
     watch(listener, OF_LISTENER, 0, EPOLLIN);
@@ -71,8 +75,10 @@ bool run_program(unsigned console, char *const *words, unsigned number)
     memcpy(text, &order, sizeof order);
     for (size_t i = 0; words && words[i]; i++) {
         size_t n = strlen(words[i]) + 1;
-        if (n > sizeof text - length)
+        if (n > sizeof text - length) {
+            errno = E2BIG;
             return false;
+        }
         memcpy(text + length, words[i], n);
         length += n;
     }

@@ -312,19 +312,32 @@ void seat_ended(unsigned seat)
         raise_signal(seat, SIGKILL);
 }
 
+/* Reads the name of a process, with ? in place of what isn't printable ASCII: a process chooses its name. */
+static void read_name(pid_t pid, char *name, size_t room)
+{
+    char path[48];
+    snprintf(path, sizeof path, "/proc/%d/comm", pid);
+    FILE *file = fopen(path, "re");
+    if (!file || !fgets(name, (int)room, file))
+        strcpy(name, "-");
+    if (file)
+        fclose(file);
+    size_t n = strlen(name);
+    if (n > 1 && name[n - 1] == '\n')
+        name[--n] = '\0';
+    for (size_t i = 0; i < n; i++)
+        if (name[i] < ' ' || name[i] > '~')
+            name[i] = '?';
+}
+
 void list_processes(FILE *to)
 {
-    char path[48], name[64];
+    char name[64];
     for (unsigned i = 1; i < SEATS; i++) {
         const struct seat *it = &seats[i];
         if (it->pid <= 0)
             continue;
-        snprintf(path, sizeof path, "/proc/%d/comm", it->pid);
-        FILE *file = fopen(path, "re");
-        if (!file || fscanf(file, "%63[^\n]", name) != 1)
-            strcpy(name, "-");
-        if (file)
-            fclose(file);
+        read_name(it->pid, name, sizeof name);
         fprintf(to, "%d p%u %s %u", it->pid, i, it->is_privileged ? "privileged" : "plain", it->home);
         const char *before = " ";
         for (unsigned n = 1; n < CONSOLES; n++)

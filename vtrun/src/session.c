@@ -2,11 +2,12 @@
  *
  * Its processes have the scripts that their calls were, as long as no script is longer than a session allows. Else they
  * have none, and their calls are free. */
+#include "typing.h"
 #include "vtrun.h"
 #include <stdlib.h>
 #include <string.h>
 
-enum { MOST_EVENTS = 1000000, MOST_CHARGE = 1 << 30, KEYBOARD = 0 };
+enum { MOST_EVENTS = 1000000, MOST_CHARGE = 1 << 30, KEYBOARD = 0, NO_CHARACTER = 0xfffd };
 
 static char *keymap_text;
 static size_t keymap_length;
@@ -20,16 +21,21 @@ void keep_keymap(const char *text, size_t length)
     keymap_length = length;
 }
 
-/* A text of TOML: it is UTF-8 already. */
+/* A text of TOML. A comment of a keymap may have bytes that aren't UTF-8: each is U+FFFD here. */
 static void write_quoted(FILE *to, const char *text, size_t length)
 {
     fputs("\"\"\"\n", to);
-    for (size_t i = 0; i < length; i++) {
-        unsigned char c = (unsigned char)text[i];
+    for (size_t i = 0, n = 1; i < length; i += n) {
+        unsigned c;
+        n = read_character((const uint8_t *)text + i, length - i, &c);
+        if (n == 0) {
+            c = NO_CHARACTER;
+            n = 1;
+        }
         if (c == '\\' || c == '"')
             fprintf(to, "\\%c", c);
-        else if (c == '\n' || c == '\t' || (c >= ' ' && c != 0x7f))
-            fputc(c, to);
+        else if (c == '\n' || c == '\t' || (c >= ' ' && c != 0x7f && c != NO_CHARACTER))
+            fwrite(text + i, 1, n, to);
         else
             fprintf(to, "\\u%04x", c);
     }
@@ -52,6 +58,11 @@ static char *item_of(char *line, unsigned *caller)
     return strcmp(call, "signals") && strcmp(call, "waitend") && strcmp(call, "exit") ? call : NULL;
 }
 
+static _Noreturn void lose_items(void)
+{
+    stop(125, "the items of a session can't be kept: %s", strerror(errno));
+}
+
 /* Hands each item of the journal to the text of its caller. */
 static void part_items(FILE *journal, FILE **texts)
 {
@@ -65,12 +76,16 @@ static void part_items(FILE *journal, FILE **texts)
         if (!texts[caller])
             texts[caller] = tmpfile();
         if (!texts[caller])
-            stop(125, "the items of a session can't be kept: %s", strerror(errno));
+            lose_items();
         if (caller == KEYBOARD)
             fprintf(texts[caller], "%s%s", ftell(texts[caller]) ? " " : "", call + strlen("scan "));
         else
             fprintf(texts[caller], "  \"%s\",\n", call);
+        if (ferror(texts[caller]))
+            lose_items();
     }
+    if (ferror(journal))
+        stop(125, "%s: the journal can't be read: %s", options.journal, strerror(errno));
     free(line);
 }
 
@@ -81,9 +96,13 @@ static void copy_text(FILE *to, FILE *from)
     size_t n;
     if (!from)
         return;
+    if (fflush(from))
+        lose_items();
     rewind(from);
     while ((n = fread(piece, 1, sizeof piece, from)) > 0)
         fwrite(piece, 1, n, to);
+    if (ferror(from))
+        lose_items();
     fclose(from);
 }
 
@@ -138,6 +157,6 @@ void write_session(FILE *journal)
         fputs("\"\n", to);
     }
     write_processes(to, texts);
-    if (fclose(to))
+    if (fflush(to) || ferror(to) || fclose(to))
         stop(125, "%s: %s", path, strerror(errno));
 }

@@ -5,9 +5,16 @@
 
 enum { MOST_COLS = 255, PLACES = 256, NO_CHARACTER = 0xfffd };
 
+/* Whether a code is no character: a place of the font, half a pair of UTF-16, or one that would steer a terminal. */
+static bool is_odd(unsigned code)
+{
+    return (code >= VT_FONT && code < VT_FONT + PLACES) || (code >= 0xd800 && code < 0xe000) || code > 0x10ffff ||
+           (code >= 0x7f && code < 0xa0);
+}
+
 static size_t put_character(char *to, unsigned code)
 {
-    if (code >= VT_FONT && code < VT_FONT + PLACES)
+    if (is_odd(code))
         code = NO_CHARACTER;
     if (code < 0x80) {
         to[0] = (char)(code < ' ' ? ' ' : code);

@@ -9,6 +9,7 @@
 #include <string.h>
 #include <sys/mount.h>
 #include <sys/stat.h>
+#include <sys/wait.h>
 #include <unistd.h>
 
 enum { NAME_ROOM = 300 };
@@ -140,13 +141,26 @@ static void cover_screens(void)
         closedir(folder);
 }
 
+/* Whether a user may make a namespace and mount there. A child tries it: a user namespace in which nothing can be mounted
+ * ends with the child. */
+static bool may_enter(void)
+{
+    int how;
+    if (geteuid() == 0)
+        return true;
+    pid_t child = fork();
+    if (child == 0)
+        _exit(enter_space() && (has_nodes() || replace_dev()) ? 0 : 1);
+    return child > 0 && waitpid(child, &how, 0) == child && WIFEXITED(how) && WEXITSTATUS(how) == 0;
+}
+
 /* Makes the namespace. `bound` gets the consoles whose ptys lie over their nodes. False if none may be made: then
- * nothing has changed. */
+ * nothing is mounted, and users are who they were. */
 bool bind_consoles(uint64_t *bound)
 {
     char path[32];
     *bound = 0;
-    if (!enter_space() || (!has_nodes() && !replace_dev()))
+    if (!may_enter() || !enter_space() || (!has_nodes() && !replace_dev()))
         return false;
     cover_screens();
     mount(consoles[1].path, "/dev/tty0", NULL, MS_BIND, NULL);

@@ -17,7 +17,7 @@
 #include <sys/wait.h>
 #include <unistd.h>
 
-enum { MOST_WORDS = 1024, GRACE_MS = 500, STEP_MS = 20 };
+enum { MOST_WORDS = 1024, MOST_PROGRAMS = 1024, GRACE_MS = 500, STEP_MS = 20 };
 
 static int children = -1; /* the list of its children, in /proc: opened before the filter is there */
 
@@ -58,7 +58,7 @@ static _Noreturn void become(const struct order *order, char *const *words)
     sigemptyset(&none);
     sigprocmask(SIG_SETMASK, &none, NULL);
     /* (a caller in the background may have ignored some: a login ignores none) */
-    for (int number = 1; number < SIGRTMIN; number++)
+    for (int number = 1; number < NSIG; number++)
         signal(number, SIG_DFL);
     setsid();
     options.on = order->console;
@@ -76,7 +76,7 @@ static _Noreturn void become(const struct order *order, char *const *words)
 static struct {
     pid_t pid;
     uint32_t number;
-} programs[MOST_WORDS];
+} programs[MOST_PROGRAMS];
 
 static void report(int to, uint32_t number, int how)
 {
@@ -92,9 +92,9 @@ static void start_program(int from, char *text, size_t length)
     memcpy(&order, text, sizeof order);
     for (size_t at = sizeof order; at < length && count < MOST_WORDS - 1; at += strlen(text + at) + 1)
         words[count++] = text + at;
-    while (slot < MOST_WORDS && programs[slot].pid)
+    while (slot < MOST_PROGRAMS && programs[slot].pid)
         slot++;
-    pid_t pid = slot < MOST_WORDS ? fork() : -1;
+    pid_t pid = slot < MOST_PROGRAMS ? fork() : -1;
     if (pid == 0)
         become(&order, count ? words : options.command);
     if (pid < 0) {
@@ -110,7 +110,7 @@ static void reap(int to)
     int how;
     pid_t pid;
     while ((pid = waitpid(-1, &how, WNOHANG)) > 0)
-        for (size_t i = 0; i < MOST_WORDS; i++)
+        for (size_t i = 0; i < MOST_PROGRAMS; i++)
             if (programs[i].pid == pid) {
                 report(to, programs[i].number, how);
                 programs[i].pid = 0;

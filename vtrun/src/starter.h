@@ -4,7 +4,7 @@
 
 #include <stdint.h>
 
-enum { MOST_ORDER = 60000 };
+enum { MOST_ORDER = 65600 }; /* bytes of an order with the words of the longest request */
 
 /* What vtrun asks for: a program, whose words follow, each with a null byte; or the command if there are none. */
 struct order {

@@ -13,16 +13,21 @@
 #include <sys/sysmacros.h>
 #include <unistd.h>
 
-/* Opens the nodes of the consoles that are bound, and returns how many. */
-static int open_nodes(uint64_t bound, int *fds)
+/* Opens the nodes of the consoles that are bound, and returns how many. One that can't be opened is bound no more. */
+static int open_nodes(uint64_t *bound, int *fds)
 {
     char path[32];
     int count = 0;
-    for (unsigned n = 1; n < CONSOLES; n++)
-        if (bound >> n & 1) {
-            snprintf(path, sizeof path, "/dev/tty%u", n);
-            fds[count++] = open(path, O_PATH | O_CLOEXEC);
-        }
+    for (unsigned n = 1; n < CONSOLES; n++) {
+        if (!(*bound >> n & 1))
+            continue;
+        snprintf(path, sizeof path, "/dev/tty%u", n);
+        fds[count] = open(path, O_PATH | O_CLOEXEC);
+        if (fds[count] >= 0)
+            count++;
+        else
+            *bound &= ~((uint64_t)1 << n);
+    }
     return count;
 }
 
@@ -40,7 +45,10 @@ static void send_start(int to, uint64_t bound, const int *fds, int count)
     head->cmsg_type = SCM_RIGHTS;
     head->cmsg_len = CMSG_LEN((size_t)count * sizeof(int));
     memcpy(CMSG_DATA(head), fds, (size_t)count * sizeof(int));
-    sendmsg(to, &message, MSG_NOSIGNAL);
+    if (sendmsg(to, &message, MSG_NOSIGNAL) < 0) {
+        dprintf(2, "vtrun: the consoles can't be handed over: %s\n", strerror(errno));
+        _exit(126);
+    }
     for (int i = 0; i < count; i++)
         close(fds[i]);
 }
@@ -90,7 +98,7 @@ _Noreturn void be_starter(int socket)
     for (int fd = 3; fd < 1024; fd++)
         if (is_real_console(fd))
             close(fd);
-    int fds[CONSOLES], count = 1 + open_nodes(bound, fds + 1);
+    int fds[CONSOLES], count = 1 + open_nodes(&bound, fds + 1);
     fds[0] = install_filter();
     if (fds[0] < 0) {
         dprintf(2, "vtrun: the kernel takes no filter of system calls: %s\n", strerror(errno));

@@ -67,8 +67,20 @@ static size_t type_one(const uint8_t *bytes, size_t n, unsigned more)
     return length ? length : 1;
 }
 
-void type_terminal(const uint8_t *bytes, size_t n)
+/* Whether all that is left is the beginning of a character of UTF-8. */
+static bool is_begun(const uint8_t *bytes, size_t n)
 {
-    for (size_t at = 0; at < n;)
+    size_t length = bytes[0] < 0xc2 || bytes[0] >= 0xf5 ? 1 : bytes[0] < 0xe0 ? 2 : bytes[0] < 0xf0 ? 3 : 4;
+    for (size_t i = 1; i < n; i++)
+        if ((bytes[i] & 0xc0) != 0x80)
+            return false;
+    return n < length;
+}
+
+size_t type_terminal(const uint8_t *bytes, size_t n)
+{
+    size_t at = 0;
+    while (at < n && !is_begun(bytes + at, n - at))
         at += type_one(bytes + at, n - at, 0);
+    return at;
 }

@@ -37,6 +37,11 @@ struct options {
 extern struct options options;
 void read_options(int count, char **words);
 _Noreturn void stop(int status, const char *form, ...) __attribute__((format(printf, 2, 3)));
+extern void (*before_stop)(void); /* what a stop does before it prints, or NULL */
+/* A whole number from a least to a greatest one, or a stop that names what it is of. */
+unsigned number_of(const char *word, const char *what, unsigned least, unsigned most);
+/* Prints on standard output, or stops with a status. */
+void print(const char *bytes, size_t n, int status);
 
 /* ---- The machine (machine.c) ---- */
 
@@ -204,7 +209,8 @@ void entry_was_set(unsigned table, unsigned code, unsigned kind, unsigned value)
 void code_was_set(unsigned number, unsigned code);
 /* Types a text with the names of keys. False with the first place that is no key. */
 bool type_text(const char *text, size_t n, size_t *fault);
-void type_terminal(const uint8_t *bytes, size_t n);
+/* Types what came from a terminal. How many bytes: the first ones of a character wait for the rest. */
+size_t type_terminal(const uint8_t *bytes, size_t n);
 
 /* ---- Control (control.c, answers.c, snap.c) ---- */
 

@@ -88,6 +88,7 @@ void settle_waits(void)
             continue;
         drop(i);
         answer(it.id, 0, end_wait(it.seat));
+        i = i > count ? count : i;
     }
 }
 

@@ -220,3 +220,8 @@ def check_faults(bench):
         is_same = ran.stderr == line and ran.returncode == (5 if fault else 0)
         bench.holds(is_same, f"keymap {number}: {wanted.stderr}, {ran.stderr}")
     bench.holds(len(seen) > 4, f"several kinds of faults were tried, and not {seen}")
+    name.write_bytes(b"keycode 30 = a\n")
+    folder = os.open(bench.folder, os.O_RDONLY)
+    ran = bench.run([program, 3, name], None, stdin=folder)
+    os.close(folder)
+    bench.holds(ran.returncode == 2, f"keys of an input that can't be read end with status 2, not {ran.returncode}")

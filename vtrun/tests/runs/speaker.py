@@ -7,6 +7,8 @@ import os
 import socket
 import time
 
+MANY = 20000
+
 
 def connected():
     """A new connection."""
@@ -16,6 +18,12 @@ def connected():
 
 
 ASK
+
+
+def connected_stream(one):
+    """What a connection sends, up to its end."""
+    one.settimeout(100)
+    return one.makefile("rb")
 
 
 def has_room():
@@ -39,11 +47,15 @@ stream = connected().makefile("rwb")
 seen = {}
 LINES = (
     "hello", "front", "consoles", "row 1 0", "row 1 25", "snap 7", "snap x", "bogus", "wait front 2 10",
-    "wait front 0 10", "journal", "wait program 1 5", "scan 1", "scan 1e9e",
+    "wait front 0 10", "journal", "wait program 1 5", "scan 1", "scan 1e9e", "scan", "scan 1e ", "hello 1", "front ",
+    "consoles 1", "processes 1", "journal x", "end now", "end\0now", "snap 1 2", "snap 1 ", "redraw 1 2", "svg 1 2",
+    "row 1 0 2", "wait front 1 1 1", "type", "type x",
 )  # fmt: skip
 for line in LINES:
     seen[line] = asked(stream, line)
-seen["type"] = asked(stream, "type 6", b"<A-F2>")
+for line in ("type 1 3", "wait text 1 1 1 3"):
+    seen[line] = asked(stream, line, b"abc")
+seen["typed"] = asked(stream, "type 6", b"<A-F2>")
 seen["type bad"] = asked(stream, "type 4", b"<A-x")
 seen["front after"] = asked(stream, "front")
 seen["wait text"] = asked(stream, "wait text 1 5 3", b"abc")
@@ -68,6 +80,13 @@ try:
         deaf.sendall(b"snap 1\n")
 except BlockingIOError:
     pass
+half = connected()
+half.sendall(b"wait front 1 100\n")
+half.shutdown(socket.SHUT_WR)
+seen["half"] = half.recv(100).decode()
+full = connected()
+full.sendall(b"wait front 1 1000\n" + MANY * b"front\n")
+seen["full"] = connected_stream(full).read(MANY * 7 + 28).count(b"ok 2\n2\n")
 long = connected()
 long.sendall(b"x" * 10000)
 big = connected()
