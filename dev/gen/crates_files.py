@@ -2,9 +2,8 @@
 
 The sentence of a file is the first one of its head: lines `//!` of a source, lines `--` of definitions and lemmas. A
 source without a head has the sentence of its own type, or of its first type, function or constant. The names of a
-source are those of its types and constants; if it has no type except the one of its sentence, those of its functions
-that are public or the crate's; in a crate of tests, those of its tests. A file of definitions has all names that it
-defines, and a file of lemmas none.
+source are those of its tests, constants, types and functions. A file of definitions has all names that it defines, and
+a file of lemmas none.
 """
 import re
 
@@ -12,15 +11,15 @@ HEAD = """# The files of each crate
 
 Tables for each crate, in the order of [the map](README.md): its sources (`src/`), its definitions (`specs/`), which
 contracts cite, and its lemmas (`proofs/`, without the parts of functions: [Where a proof
-stands](../CONTRIBUTING.md#where-a-proof-stands)). A row has the sentence of the file, and names: the types and
-constants of a source, or its functions if it has no other type, the tests of a file of tests, and all that a file of
-definitions defines. Root files and lists of modules are left out.
+stands](../CONTRIBUTING.md#where-a-proof-stands)). A row has the sentence of the file, and names: the tests,
+constants, types and functions of a source, and all that a file of definitions defines. Root files and lists of modules
+are left out.
 """
 SKIPPED = {"lib.rt", "Lib.antt", "for_laws.antt"}
 TYPES = {"struct", "enum", "trait", "union"}
 OPEN = r"pub(?:\(\w+\))? "
 ITEM = re.compile(rf"(?:{OPEN})?(?:const |unsafe |extern \"C\" )*({'|'.join(TYPES)}|fn|const|static|type) (\w+)")
-CALL = re.compile(rf"(?:    )?{OPEN}(?:const |unsafe |extern \"C\" )*fn (\w+)")
+CALL = re.compile(rf"(?:    )?(?:{OPEN})?(?:const |unsafe |extern \"C\" )*fn (\w+)")
 CONSTANT = re.compile(rf"(?:{OPEN})?(?:const|static) (\w\w+)")
 TEST = re.compile(r"#\[test\]\n(?:#\[.*\n)*fn (\w+)")
 OWNER = re.compile(r"impl(?:<[^>]*>)? (?:[\w:<>]+ for )?(\w+)")
@@ -92,7 +91,7 @@ def names_of(path, text, told):
         found = names(DEFINED)
     else:
         types = [item[2] for line in lines if (item := ITEM.match(line)) and item[1] in TYPES and item[2] != told]
-        found = TEST.findall(text) or [*names(CONSTANT), *(types or names(CALL))]
+        found = [*TEST.findall(text), *names(CONSTANT), *types, *names(CALL)]
     return ", ".join(f"`{name}`" for name in dict.fromkeys(found) if name != told)
 
 
