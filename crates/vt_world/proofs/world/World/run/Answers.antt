@@ -1,6 +1,7 @@
 use Rattle.std.proofs.Common.{◌≡◌, ◌≤◌, ℕ, ◌+◌, ◌-◌, ◌*◌, ◌++◌, List, length, take, drop, sym, ap, ◌∙◌, subst, arith}
 use Rattle.std.proofs.Math.Seq.{take-add}
 use Rattle.std.proofs.lemmas.List.{length-drop, length-take, take_all}
+use Rattle.vt_screen.proofs.for_laws.Asking.{requests_are_few}
 use Rattle.vt_screen.specs.Asking.{requests}
 use Rattle.vt_canvas.specs.declared.out.Out.{Out}
 use Rattle.vt_world.specs.State.{WorldState}
@@ -16,6 +17,13 @@ up_to w c text = said_of (terminal_at w.terminals c) text
 rest_is : (at : ℕ) (text : List ℕ) → take (length text - at) (drop at text) ≡ drop at text
 rest_is at text = take_all (length text - at) (drop at text) (omega (arith, length-drop at text))
 
+pub run_part-at-requires : goal.run_part-at-requires
+run_part-at-requires c = record {
+  room = λ n.
+      let few = asks_few requests_are_few (terminal_at c.args.self.now.terminals c.args.c) (take n c.args.b.now) in
+      omega (arith, few, length-take n c.args.b.now, c.requires.short, ap length c.requires.clear);
+}
+
 pub run_part-at-requires-in-loop-at : goal.run_part-at-requires-in-loop-at
 run_part-at-requires-in-loop-at c =
     let at : ℕ = c.loop-at.at in
@@ -30,7 +38,7 @@ run_part-at-requires-in-loop-at c =
           c.loop-at.invariant.done
           ∙ ran-asks c.any_cut.ensures start c.args.c (take at text) piece
           ∙ ap (λ (bytes : List ℕ). requests (up_to start c.args.c bytes)) (sym fed) in
-          let few = asks_few c.requests_are_few.ensures (terminal_at start.terminals c.args.c) (take (at + n) text) in
+          let few = asks_few requests_are_few (terminal_at start.terminals c.args.c) (take (at + n) text) in
           let short : length (take (at + n) text) ≤ 4096 = omega (arith, length-take (at + n) text, c.requires.short) in
           let now : requests (up_to c.loop-at.self c.args.c (take n (take (length text - at) (drop at text)))) ≡ requests (up_to c.loop-at.self c.args.c piece) =
           ap (λ (bytes : List ℕ). requests (up_to c.loop-at.self c.args.c (take n bytes))) (rest_is at text) in
