@@ -1,14 +1,13 @@
 -- Effects that leave the tab stops and do not ask for them.
-use Rattle.std.proofs.Common.{◌≡◌, ℕ, ◌+◌, ◌-◌, ◌==◌, ◌&&◌, ◌||◌, nat_le, nat_lt, Bool, true, false, List, [], ◌∷◌, refl, ap, ◌∙◌, cond}
+use Rattle.std.proofs.Common.{◌≡◌, ℕ, ◌==◌, ◌&&◌, ◌||◌, nat_le, nat_lt, Bool, true, false, List, [], ◌∷◌, refl, ap, ◌∙◌, cond}
 use Rattle.std.specs.Prelude.{if◌then◌else◌}
 use Rattle.vt_cells.specs.Colours.{Rgb}
 use Rattle.vt_redraw.specs.Behind.{with_stops}
 use Rattle.vt_canvas.specs.Cursor.{at_column, linefeed, cursor_to, newline, cursor_to_in_region, region_down, region_up, reverse_linefeed}
-use Rattle.vt_canvas.specs.Erasing.{cells_inserted, delete_characters, delete_lines, erase_characters, erase_display, erase_line, in_region, insert_characters, insert_lines, rows_erased, without_pending_wrap}
+use Rattle.vt_canvas.specs.Erasing.{cells_inserted, delete_lines, erase_display, erase_line, in_region, insert_lines, rows_erased, without_pending_wrap}
 use Rattle.vt_canvas.specs.Printing.{codes_drawn, lacks_room, with_gap, print, with_cells_at_cursor, with_character, character_of_byte, after_wrap}
-use Rattle.vt_canvas.specs.Saying.{with_default_pair, with_dim_colour, with_underline_colour}
 use Rattle.vt_canvas.specs.Screen.{Screen}
-use Rattle.vt_canvas.specs.Settings.{alignment_pattern, each, after_shift, after_sgr, restore, save, with_coding, with_colour, with_g0, with_g1, with_keypad, with_mode, with_private_mode, with_region, with_start_palette}
+use Rattle.vt_canvas.specs.Settings.{each, with_coding, with_colour, with_mode, with_private_mode, with_region}
 
 -- what leaves the tab stops and doesn't ask for them
 pub record Keeps (f : Screen → Screen) : Type 0 where
@@ -50,10 +49,11 @@ keeps_then f g x y = record {
 abbrev Facts : Type 0
 Facts = Screen × List Bool × ℕ
 
-plain : (f : Screen → Screen)
-    → ((st : List Bool) (s : Screen)
-    → ◌≡◌ {A = Facts} (f (with_stops st s), (f s).state.stops, (f s).grid.cols) (with_stops st (f s), s.state.stops, s.grid.cols))
-    → Keeps f
+abbrev pub Computes : (Screen → Screen) → Type 0
+Computes f = (st : List Bool) (s : Screen)
+    → ◌≡◌ {A = Facts} (f (with_stops st s), (f s).state.stops, (f s).grid.cols) (with_stops st (f s), s.state.stops, s.grid.cols)
+
+pub plain : (f : Screen → Screen) → Computes f → Keeps f
 plain f same = record {
   commutes = λ st s. ap (λ (x : Facts). x.0) (same st s);
   stops = λ s. ap (λ (x : Facts). x.1) (same s.state.stops s);
@@ -65,9 +65,6 @@ keeps_nothing = plain _ (λ st s. refl)
 
 pub column_keeps : (x : ℕ) → Keeps (at_column x)
 column_keeps x = plain _ (λ st s. refl)
-
-pub back_keeps : Keeps (λ s. at_column (s.state.x - 1) s)
-back_keeps = plain _ (λ st s. refl)
 
 pub linefeed_keeps : Keeps linefeed
 linefeed_keeps = keeps_if (λ s. s.state.y == s.state.bottom) region_up _ (λ st s. refl) (plain _ (λ st s. refl)) (plain _ (λ st s. refl))
@@ -116,54 +113,6 @@ byte_keeps b = record {
   cols = λ s. let one = print_keeps 1 (character_of_byte b s) in one.cols s;
 }
 
-pub cuu_keeps : (n : ℕ) → Keeps (λ s. cursor_to (s.state.y - n) s.state.x s)
-unfolding cursor_to
-cuu_keeps n = plain _ (λ st s. refl)
-
-pub cud_keeps : (n : ℕ) → Keeps (λ s. cursor_to (s.state.y + n) s.state.x s)
-unfolding cursor_to
-cud_keeps n = plain _ (λ st s. refl)
-
-pub cuf_keeps : (n : ℕ) → Keeps (λ s. cursor_to s.state.y (s.state.x + n) s)
-unfolding cursor_to
-cuf_keeps n = plain _ (λ st s. refl)
-
-pub cub_keeps : (n : ℕ) → Keeps (λ s. cursor_to s.state.y (s.state.x - n) s)
-unfolding cursor_to
-cub_keeps n = plain _ (λ st s. refl)
-
-pub cnl_keeps : (n : ℕ) → Keeps (λ s. cursor_to (s.state.y + n) 0 s)
-unfolding cursor_to
-cnl_keeps n = plain _ (λ st s. refl)
-
-pub cpl_keeps : (n : ℕ) → Keeps (λ s. cursor_to (s.state.y - n) 0 s)
-unfolding cursor_to
-cpl_keeps n = plain _ (λ st s. refl)
-
-pub cha_keeps : (n : ℕ) → Keeps (λ s. cursor_to s.state.y (n - 1) s)
-unfolding cursor_to
-cha_keeps n = plain _ (λ st s. refl)
-
-pub vpa_keeps : (n : ℕ) → Keeps (λ s. cursor_to_in_region (n - 1) s.state.x s)
-unfolding cursor_to_in_region cursor_to
-vpa_keeps n = plain _ (λ st s. refl)
-
-pub ich_keeps : (n : ℕ) → Keeps (insert_characters n)
-unfolding insert_characters
-ich_keeps n = plain _ (λ st s. refl)
-
-pub dch_keeps : (n : ℕ) → Keeps (delete_characters n)
-unfolding delete_characters
-dch_keeps n = plain _ (λ st s. refl)
-
-pub ech_keeps : (n : ℕ) → Keeps (erase_characters n)
-unfolding erase_characters
-ech_keeps n = plain _ (λ st s. refl)
-
-pub place_keeps : (y x : ℕ) → Keeps (cursor_to_in_region y x)
-unfolding cursor_to_in_region cursor_to
-place_keeps y x = plain _ (λ st s. refl)
-
 pub ed_keeps : (n : ℕ) → Keeps (erase_display n)
 unfolding erase_display rows_erased
 ed_keeps n =
@@ -190,42 +139,6 @@ pub dl_keeps : (n : ℕ) → Keeps (delete_lines n)
 unfolding delete_lines
 dl_keeps n =
     keeps_then _ without_pending_wrap (keeps_if in_region _ (λ s. s) (λ st s. refl) (plain _ (λ st s. refl)) keeps_nothing) without_pending_wrap_keeps
-
-pub sgr_keeps : (params : List ℕ) → Keeps (after_sgr params)
-unfolding after_sgr
-sgr_keeps params = plain _ (λ st s. refl)
-
-pub after_shift_keeps : (shift : ℕ) (on : Bool) → Keeps (after_shift shift on)
-unfolding after_shift
-after_shift_keeps shift on = plain _ (λ st s. refl)
-
-pub save_keeps : Keeps (save)
-unfolding save
-save_keeps = plain _ (λ st s. refl)
-
-pub restore_keeps : Keeps (restore)
-unfolding restore cursor_to
-restore_keeps = plain _ (λ st s. refl)
-
-pub alignment_pattern_keeps : Keeps (alignment_pattern)
-unfolding alignment_pattern
-alignment_pattern_keeps = plain _ (λ st s. refl)
-
-pub start_palette_keeps : Keeps (with_start_palette)
-unfolding with_start_palette
-start_palette_keeps = plain _ (λ st s. refl)
-
-pub keypad_keeps : (on : Bool) → Keeps (with_keypad on)
-unfolding with_keypad
-keypad_keeps on = plain _ (λ st s. refl)
-
-pub g0_keeps : (last : ℕ) → Keeps (with_g0 last)
-unfolding with_g0
-g0_keeps last = plain _ (λ st s. refl)
-
-pub g1_keeps : (last : ℕ) → Keeps (with_g1 last)
-unfolding with_g1
-g1_keeps last = plain _ (λ st s. refl)
 
 pub coding_keeps : (last : ℕ) → Keeps (with_coding last)
 unfolding with_coding
@@ -264,12 +177,3 @@ region_keeps t b =
 pub colour_keeps : (n : ℕ) (rgb : Rgb) → Keeps (with_colour n rgb)
 unfolding with_colour
 colour_keeps n rgb = keeps_if (λ s. nat_lt n 16) _ (λ s. s) (λ st s. refl) (plain _ (λ st s. refl)) keeps_nothing
-
-pub underline_keeps : (n : ℕ) → Keeps (with_underline_colour n)
-underline_keeps n = plain _ (λ st s. refl)
-
-pub dim_keeps : (n : ℕ) → Keeps (with_dim_colour n)
-dim_keeps n = plain _ (λ st s. refl)
-
-pub pair_keeps : Keeps (with_default_pair)
-pair_keeps = plain _ (λ st s. refl)
