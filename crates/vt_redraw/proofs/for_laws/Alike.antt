@@ -6,15 +6,16 @@ use Rattle.std.proofs.lemmas.Bool.{cases_lt}
 use Rattle.std.proofs.lemmas.List.{drop-take, length-append, length-drop, length-map, length-replicate, length-set, length-take-le, take_at}
 use Rattle.std.proofs.lemmas.List.FromFn.{length-range_with_len}
 use Rattle.vt_cells.specs.Width.{columns}
-use Rattle.vt_redraw.proofs.for_laws.Keeps.{Keeps, alignment_pattern_keeps, back_keeps, byte_keeps, cha_keeps, cnl_keeps, coding_keeps, colour_keeps, column_keeps, cpl_keeps, cub_keeps, cud_keeps, cuf_keeps, cuu_keeps, dch_keeps, dim_keeps, dl_keeps, each_keeps, ech_keeps, ed_keeps, el_keeps, g0_keeps, g1_keeps, ich_keeps, il_keeps, after_shift_keeps, keeps_if, keeps_nothing, keypad_keeps, linefeed_keeps, mode_keeps, newline_keeps, next_keeps, pair_keeps, place_keeps, print_keeps, private_keeps, region_keeps, restore_keeps, reverse_keeps, save_keeps, sgr_keeps, start_palette_keeps, underline_keeps, vpa_keeps}
+use Rattle.vt_redraw.proofs.for_laws.Keeps.{Computes, Keeps, plain, byte_keeps, coding_keeps, colour_keeps, column_keeps, dl_keeps, each_keeps, ed_keeps, el_keeps, il_keeps, keeps_if, keeps_nothing, linefeed_keeps, mode_keeps, newline_keeps, next_keeps, print_keeps, private_keeps, region_keeps, reverse_keeps}
 use Rattle.vt_redraw.specs.Behind.{IsAlike, TextsFollow, with_stops}
 use Rattle.vt_redraw.specs.Redraw.{IsStored, redrawn_on}
-use Rattle.vt_canvas.specs.Cursor.{tab}
+use Rattle.vt_canvas.specs.Cursor.{tab, cursor_to, cursor_to_in_region}
+use Rattle.vt_canvas.specs.Erasing.{insert_characters, delete_characters, erase_characters}
 use Rattle.vt_canvas.specs.Effect.{control, control_sequence, count_of, effect, escape, number_at, plain_escape, private_sequence}
 use Rattle.vt_screen.specs.Run.{ScreenAndOuts, screen_effects, with_outs, outs_of_option, then_done}
 use Rattle.vt_canvas.specs.Saying.{Effect, console_setting, cursor_text, device_report, device_text, lights, without_out, with_out, status_report}
 use Rattle.vt_canvas.specs.Screen.{Screen, is_start_stop, mode_of, with_state}
-use Rattle.vt_canvas.specs.Settings.{alignment_pattern, clear_stops, reset, set_stop, with_mode, with_private_mode}
+use Rattle.vt_canvas.specs.Settings.{alignment_pattern, clear_stops, reset, set_stop, with_mode, with_private_mode, after_sgr, after_shift, save, restore, with_keypad, with_g0, with_g1, with_start_palette}
 use Rattle.vt_canvas.specs.declared.out.Out.{Out}
 use Rattle.vt_canvas.specs.declared.out.Out.TheVariants.{Bell, Lights, Report, SwitchLast, SwitchTo}
 use Rattle.vt_units.specs.Answer.{answer, rest_after}
@@ -45,6 +46,9 @@ keeps_alike f k s t a = record {
 
 without_out_row : (f : Screen → Screen) → Keeps f → Row (λ s. without_out (f s))
 without_out_row f k = record { row = λ s t a. record { screens = keeps_alike f k s t a; said = refl } }
+
+computes_row : (f : Screen → Screen) → Computes f → Row (λ s. without_out (f s))
+computes_row f same = without_out_row f (plain f same)
 
 with_out_row : (out : Screen → Out) → ((st : List Bool) (s : Screen) → out (with_stops st s) ≡ out s) → Row (λ s. with_out (out s) s)
 with_out_row out same = record {
@@ -175,17 +179,17 @@ reset_row = record {
 }
 
 control_row : (code : ℕ) → Row (control code)
-unfolding control
+unfolding control after_shift
 control_row code =
     if_row (code == 0x07) _ _ (with_out_row (λ s. Bell) (λ st s. refl))
-    (if_row (code == 0x08) _ _ (without_out_row _ back_keeps)
+    (if_row (code == 0x08) _ _ (computes_row _ (λ st s. refl))
     (if_row (code == 0x09) _ _ (tab_row)
     (if_row (code == 0x0A) _ _ (without_out_row _ newline_keeps)
     (if_row (code == 0x0B) _ _ (without_out_row _ newline_keeps)
     (if_row (code == 0x0C) _ _ (without_out_row _ newline_keeps)
     (if_row (code == 0x0D) _ _ (without_out_row _ (column_keeps 0))
-    (if_row (code == 0x0E) _ _ (without_out_row _ (after_shift_keeps 1 true))
-    (if_row (code == 0x0F) _ _ (without_out_row _ (after_shift_keeps 0 false))
+    (if_row (code == 0x0E) _ _ (computes_row _ (λ st s. refl))
+    (if_row (code == 0x0F) _ _ (computes_row _ (λ st s. refl))
     (nothing_row)))))))))
 
 device_row : (which : ℕ) → Row (device_report which)
@@ -193,7 +197,7 @@ unfolding device_report
 device_row which = if_row (which == 0) _ _ (with_out_row (λ s. Report (0x1B ∷ device_text)) (λ st s. refl)) nothing_row
 
 plain_row : (last : ℕ) → Row (plain_escape last)
-unfolding plain_escape
+unfolding plain_escape save restore cursor_to with_keypad
 plain_row last =
     if_row (last == 0x63) _ _ (reset_row)
     (if_row (last == 0x44) _ _ (without_out_row _ linefeed_keeps)
@@ -201,20 +205,20 @@ plain_row last =
     (if_row (last == 0x48) _ _ (stop_row)
     (if_row (last == 0x4D) _ _ (without_out_row _ reverse_keeps)
     (if_row (last == 0x5A) _ _ (device_row 0)
-    (if_row (last == 0x37) _ _ (without_out_row _ save_keeps)
-    (if_row (last == 0x38) _ _ (without_out_row _ restore_keeps)
-    (if_row (last == 0x3E) _ _ (without_out_row _ (keypad_keeps false))
-    (if_row (last == 0x3D) _ _ (without_out_row _ (keypad_keeps true))
+    (if_row (last == 0x37) _ _ (computes_row _ (λ st s. refl))
+    (if_row (last == 0x38) _ _ (computes_row _ (λ st s. refl))
+    (if_row (last == 0x3E) _ _ (computes_row _ (λ st s. refl))
+    (if_row (last == 0x3D) _ _ (computes_row _ (λ st s. refl))
     (nothing_row))))))))))
 
 escape_row : (mid last : ℕ) → Row (escape mid last)
-unfolding escape
+unfolding escape alignment_pattern with_g0 with_g1
 escape_row mid last =
     if_row (mid == 0) _ _ (plain_row last)
     (if_row (mid == 0x25) _ _ (without_out_row _ (coding_keeps last))
-    (if_row (mid == 0x23) _ _ (without_out_row _ (keeps_if (λ s. last == 0x38) alignment_pattern (λ s. s) (λ st s. refl) alignment_pattern_keeps keeps_nothing))
-    (if_row (mid == 0x28) _ _ (without_out_row _ (g0_keeps last))
-    (if_row (mid == 0x29) _ _ (without_out_row _ (g1_keeps last))
+    (if_row (mid == 0x23) _ _ (without_out_row _ (keeps_if (λ s. last == 0x38) alignment_pattern (λ s. s) (λ st s. refl) (plain _ (λ st s. refl)) keeps_nothing))
+    (if_row (mid == 0x28) _ _ (computes_row _ (λ st s. refl))
+    (if_row (mid == 0x29) _ _ (computes_row _ (λ st s. refl))
     (nothing_row)))))
 
 status_row : (which : ℕ) → Row (status_report which)
@@ -236,49 +240,49 @@ lights_row which =
 setting_row : (which value : ℕ) → Row (console_setting which value)
 unfolding console_setting
 setting_row which value =
-    if_row (which == 1) _ _ (without_out_row _ (keeps_if (λ s. nat_lt value 16) _ (λ s. s) (λ st s. refl) (underline_keeps value) keeps_nothing))
-    (if_row (which == 2) _ _ (without_out_row _ (keeps_if (λ s. nat_lt value 16) _ (λ s. s) (λ st s. refl) (dim_keeps value) keeps_nothing))
-    (if_row (which == 8) _ _ (without_out_row _ pair_keeps)
+    if_row (which == 1) _ _ (without_out_row _ (keeps_if (λ s. nat_lt value 16) _ (λ s. s) (λ st s. refl) (plain _ (λ st s. refl)) keeps_nothing))
+    (if_row (which == 2) _ _ (without_out_row _ (keeps_if (λ s. nat_lt value 16) _ (λ s. s) (λ st s. refl) (plain _ (λ st s. refl)) keeps_nothing))
+    (if_row (which == 8) _ _ (computes_row _ (λ st s. refl))
     (if_row (which == 12) _ _ (if_row (nat_le 1 value && nat_le value 63) _ _ (with_out_row (λ s. SwitchTo value) (λ st s. refl)) nothing_row)
     (if_row (which == 15) _ _ (with_out_row (λ s. SwitchLast) (λ st s. refl))
     (nothing_row)))))
 
 sequence_row : (params : List ℕ) (last : ℕ) → Row (control_sequence params last)
-unfolding control_sequence
+unfolding control_sequence cursor_to cursor_to_in_region insert_characters delete_characters erase_characters after_sgr save restore
 sequence_row params last =
     let n : ℕ = count_of params in
     let first : ℕ = number_at params 0 in
     let second : ℕ = number_at params 1 in
-    if_row (last == 0x40) _ _ (without_out_row _ (ich_keeps n))
-    (if_row (last == 0x41) _ _ (without_out_row _ (cuu_keeps n))
-    (if_row (last == 0x42) _ _ (without_out_row _ (cud_keeps n))
-    (if_row (last == 0x43) _ _ (without_out_row _ (cuf_keeps n))
-    (if_row (last == 0x44) _ _ (without_out_row _ (cub_keeps n))
-    (if_row (last == 0x45) _ _ (without_out_row _ (cnl_keeps n))
-    (if_row (last == 0x46) _ _ (without_out_row _ (cpl_keeps n))
-    (if_row (last == 0x47) _ _ (without_out_row _ (cha_keeps n))
-    (if_row (last == 0x48) _ _ (without_out_row _ (place_keeps (n - 1) (second - 1)))
+    if_row (last == 0x40) _ _ (computes_row _ (λ st s. refl))
+    (if_row (last == 0x41) _ _ (computes_row _ (λ st s. refl))
+    (if_row (last == 0x42) _ _ (computes_row _ (λ st s. refl))
+    (if_row (last == 0x43) _ _ (computes_row _ (λ st s. refl))
+    (if_row (last == 0x44) _ _ (computes_row _ (λ st s. refl))
+    (if_row (last == 0x45) _ _ (computes_row _ (λ st s. refl))
+    (if_row (last == 0x46) _ _ (computes_row _ (λ st s. refl))
+    (if_row (last == 0x47) _ _ (computes_row _ (λ st s. refl))
+    (if_row (last == 0x48) _ _ (computes_row _ (λ st s. refl))
     (if_row (last == 0x4A) _ _ (without_out_row _ (ed_keeps first))
     (if_row (last == 0x4B) _ _ (without_out_row _ (el_keeps first))
     (if_row (last == 0x4C) _ _ (without_out_row _ (il_keeps n))
     (if_row (last == 0x4D) _ _ (without_out_row _ (dl_keeps n))
-    (if_row (last == 0x50) _ _ (without_out_row _ (dch_keeps n))
-    (if_row (last == 0x58) _ _ (without_out_row _ (ech_keeps n))
-    (if_row (last == 0x61) _ _ (without_out_row _ (cuf_keeps n))
+    (if_row (last == 0x50) _ _ (computes_row _ (λ st s. refl))
+    (if_row (last == 0x58) _ _ (computes_row _ (λ st s. refl))
+    (if_row (last == 0x61) _ _ (computes_row _ (λ st s. refl))
     (if_row (last == 0x63) _ _ (device_row first)
-    (if_row (last == 0x64) _ _ (without_out_row _ (vpa_keeps n))
-    (if_row (last == 0x65) _ _ (without_out_row _ (cud_keeps n))
-    (if_row (last == 0x66) _ _ (without_out_row _ (place_keeps (n - 1) (second - 1)))
+    (if_row (last == 0x64) _ _ (computes_row _ (λ st s. refl))
+    (if_row (last == 0x65) _ _ (computes_row _ (λ st s. refl))
+    (if_row (last == 0x66) _ _ (computes_row _ (λ st s. refl))
     (if_row (last == 0x67) _ _ (clear_row first)
     (if_row (last == 0x68) _ _ (without_out_row _ (each_keeps (with_mode true) (mode_keeps true) params))
     (if_row (last == 0x6C) _ _ (without_out_row _ (each_keeps (with_mode false) (mode_keeps false) params))
-    (if_row (last == 0x6D) _ _ (without_out_row _ (sgr_keeps params))
+    (if_row (last == 0x6D) _ _ (computes_row _ (λ st s. refl))
     (if_row (last == 0x6E) _ _ (status_row first)
     (if_row (last == 0x71) _ _ (lights_row first)
     (if_row (last == 0x72) _ _ (without_out_row _ (region_keeps n second))
-    (if_row (last == 0x73) _ _ (without_out_row _ (save_keeps))
-    (if_row (last == 0x75) _ _ (without_out_row _ (restore_keeps))
-    (if_row (last == 0x60) _ _ (without_out_row _ (cha_keeps n))
+    (if_row (last == 0x73) _ _ (computes_row _ (λ st s. refl))
+    (if_row (last == 0x75) _ _ (computes_row _ (λ st s. refl))
+    (if_row (last == 0x60) _ _ (computes_row _ (λ st s. refl))
     (if_row (last == 0x5D) _ _ (setting_row first second)
     (nothing_row)))))))))))))))))))))))))))))))
 
@@ -290,6 +294,7 @@ private_row params last =
     (nothing_row))
 
 unit_row : (u : units.Unit) → Row (effect u)
+unfolding with_start_palette
 unit_row (units.Unit.Char code) = without_out_row _ (print_keeps (columns code) code)
 unit_row (units.Unit.Byte b) = without_out_row _ (byte_keeps b)
 unit_row (units.Unit.Control code) = control_row code
@@ -297,7 +302,7 @@ unit_row (units.Unit.Esc mid last) = escape_row mid last
 unit_row (units.Unit.Csi private params last) =
     if_row private (private_sequence params last) (control_sequence params last) (private_row params last) (sequence_row params last)
 unit_row (units.Unit.Colour n rgb) = without_out_row _ (colour_keeps n rgb)
-unit_row units.Unit.ColourReset = without_out_row _ start_palette_keeps
+unit_row units.Unit.ColourReset = computes_row _ (λ st s. refl)
 unit_row units.Unit.Ignored = nothing_row
 
 -- screens, what was said, and the rest

@@ -1,15 +1,13 @@
 -- Effects that leave the tab stops and do not ask for them.
-use Rattle.std.proofs.Common.{◌≡◌, ℕ, ◌+◌, ◌-◌, ◌==◌, ◌&&◌, ◌||◌, nat_le, nat_lt, min, Bool, true, false, List, [], ◌∷◌, refl, ap, ◌∙◌, cond}
-use Rattle.std.specs.Prelude.{codes, if◌then◌else◌, slice_set}
+use Rattle.std.proofs.Common.{◌≡◌, ℕ, ◌==◌, ◌&&◌, ◌||◌, nat_le, nat_lt, Bool, true, false, List, [], ◌∷◌, refl, ap, ◌∙◌, cond}
+use Rattle.std.specs.Prelude.{if◌then◌else◌}
 use Rattle.vt_cells.specs.Colours.{Rgb}
-use Rattle.vt_grid.specs.Grid.{scrolled_down, scrolled_up}
 use Rattle.vt_redraw.specs.Behind.{with_stops}
-use Rattle.vt_canvas.specs.Cursor.{at_column, at_row, cursor_home, linefeed, cursor_to, newline, cursor_to_in_region, region_down, region_up, reverse_linefeed}
-use Rattle.vt_canvas.specs.Erasing.{above_erased, all_erased, below_erased, cells_inserted, delete_characters, delete_lines, erase_characters, erase_display, erase_line, in_region, insert_characters, insert_lines, line_end_erased, line_erased, line_start_erased, rows_erased, without_pending_wrap, with_grid}
+use Rattle.vt_canvas.specs.Cursor.{at_column, linefeed, cursor_to, newline, cursor_to_in_region, region_down, region_up, reverse_linefeed}
+use Rattle.vt_canvas.specs.Erasing.{cells_inserted, delete_lines, erase_display, erase_line, in_region, insert_lines, rows_erased, without_pending_wrap}
 use Rattle.vt_canvas.specs.Printing.{codes_drawn, lacks_room, with_gap, print, with_cells_at_cursor, with_character, character_of_byte, after_wrap}
-use Rattle.vt_canvas.specs.Saying.{with_default_pair, with_dim_colour, with_underline_colour}
-use Rattle.vt_canvas.specs.Screen.{Screen, blank_of, with_state}
-use Rattle.vt_canvas.specs.Settings.{alignment_pattern, each, after_shift, after_sgr, restore, save, with_coding, with_colour, with_g0, with_g1, with_keypad, with_mode, with_pen, with_private_mode, with_region, with_start_palette}
+use Rattle.vt_canvas.specs.Screen.{Screen}
+use Rattle.vt_canvas.specs.Settings.{each, with_coding, with_colour, with_mode, with_private_mode, with_region}
 
 -- what leaves the tab stops and doesn't ask for them
 pub record Keeps (f : Screen → Screen) : Type 0 where
@@ -47,35 +45,32 @@ keeps_then f g x y = record {
   cols = λ s. y.cols (f s) ∙ x.cols s;
 }
 
+-- what keeps them by computing
+abbrev Facts : Type 0
+Facts = Screen × List Bool × ℕ
+
+abbrev pub Computes : (Screen → Screen) → Type 0
+Computes f = (st : List Bool) (s : Screen)
+    → ◌≡◌ {A = Facts} (f (with_stops st s), (f s).state.stops, (f s).grid.cols) (with_stops st (f s), s.state.stops, s.grid.cols)
+
+pub plain : (f : Screen → Screen) → Computes f → Keeps f
+plain f same = record {
+  commutes = λ st s. ap (λ (x : Facts). x.0) (same st s);
+  stops = λ s. ap (λ (x : Facts). x.1) (same s.state.stops s);
+  cols = λ s. ap (λ (x : Facts). x.2) (same s.state.stops s);
+}
+
 pub keeps_nothing : Keeps (λ s. s)
-keeps_nothing = record { commutes = λ st s. refl; stops = λ s. refl; cols = λ s. refl }
+keeps_nothing = plain _ (λ st s. refl)
 
 pub column_keeps : (x : ℕ) → Keeps (at_column x)
-column_keeps x = record { commutes = λ st s. refl; stops = λ s. refl; cols = λ s. refl }
-
-pub back_keeps : Keeps (λ s. at_column (s.state.x - 1) s)
-back_keeps = record { commutes = λ st s. refl; stops = λ s. refl; cols = λ s. refl }
-
-pub near_keeps : (w : ℕ) → Keeps (λ s. at_column (s.grid.cols - w) s)
-near_keeps w = record { commutes = λ st s. refl; stops = λ s. refl; cols = λ s. refl }
-
-pub up_keeps : Keeps (region_up)
-up_keeps = record { commutes = λ st s. refl; stops = λ s. refl; cols = λ s. refl }
-
-pub down_keeps : Keeps (region_down)
-down_keeps = record { commutes = λ st s. refl; stops = λ s. refl; cols = λ s. refl }
-
-pub below_keeps : Keeps (λ s. at_row (min (s.state.y + 1) (s.grid.rows - 1)) s)
-below_keeps = record { commutes = λ st s. refl; stops = λ s. refl; cols = λ s. refl }
-
-pub above_keeps : Keeps (λ s. at_row (s.state.y - 1) s)
-above_keeps = record { commutes = λ st s. refl; stops = λ s. refl; cols = λ s. refl }
+column_keeps x = plain _ (λ st s. refl)
 
 pub linefeed_keeps : Keeps linefeed
-linefeed_keeps = keeps_if (λ s. s.state.y == s.state.bottom) region_up _ (λ st s. refl) up_keeps below_keeps
+linefeed_keeps = keeps_if (λ s. s.state.y == s.state.bottom) region_up _ (λ st s. refl) (plain _ (λ st s. refl)) (plain _ (λ st s. refl))
 
 pub reverse_keeps : Keeps reverse_linefeed
-reverse_keeps = keeps_if (λ s. s.state.y == s.state.top) region_down _ (λ st s. refl) down_keeps above_keeps
+reverse_keeps = keeps_if (λ s. s.state.y == s.state.top) region_down _ (λ st s. refl) (plain _ (λ st s. refl)) (plain _ (λ st s. refl))
 
 pub newline_keeps : Keeps newline
 newline_keeps =
@@ -88,21 +83,15 @@ next_keeps = keeps_then (at_column 0) linefeed (column_keeps 0) linefeed_keeps
 pub after_wrap_keeps : (w : ℕ) → Keeps (after_wrap w)
 after_wrap_keeps w =
     keeps_if (λ s. s.state.autowrap && (s.state.wrap || lacks_room w s)) _ _ (λ st s. refl) next_keeps
-    (keeps_if (lacks_room w) _ (λ s. s) (λ st s. refl) (near_keeps w) keeps_nothing)
-
-pub inserted_keeps : (w : ℕ) → Keeps (cells_inserted w)
-inserted_keeps w = record { commutes = λ st s. refl; stops = λ s. refl; cols = λ s. refl }
+    (keeps_if (lacks_room w) _ (λ s. s) (λ st s. refl) (plain _ (λ st s. refl)) keeps_nothing)
 
 pub with_gap_keeps : (w : ℕ) → Keeps (with_gap w)
-with_gap_keeps w = keeps_if (λ s. s.state.insert) (cells_inserted w) (λ s. s) (λ st s. refl) (inserted_keeps w) keeps_nothing
-
-pub put_keeps : (codes : List ℕ) → Keeps (with_cells_at_cursor codes)
-put_keeps codes = record { commutes = λ st s. refl; stops = λ s. refl; cols = λ s. refl }
+with_gap_keeps w = keeps_if (λ s. s.state.insert) (cells_inserted w) (λ s. s) (λ st s. refl) (plain _ (λ st s. refl)) keeps_nothing
 
 pub down_set_keeps : (w code : ℕ) → Keeps (with_character w code)
 down_set_keeps w code =
     keeps_then (λ s. with_gap w (after_wrap w s)) (with_cells_at_cursor (codes_drawn w code))
-    (keeps_then (after_wrap w) (with_gap w) (after_wrap_keeps w) (with_gap_keeps w)) (put_keeps (codes_drawn w code))
+    (keeps_then (after_wrap w) (with_gap w) (after_wrap_keeps w) (with_gap_keeps w)) (plain _ (λ st s. refl))
 
 pub print_keeps : (w code : ℕ) → Keeps (print w code)
 unfolding print
@@ -124,225 +113,67 @@ byte_keeps b = record {
   cols = λ s. let one = print_keeps 1 (character_of_byte b s) in one.cols s;
 }
 
-pub cuu_keeps : (n : ℕ) → Keeps (λ s. cursor_to (s.state.y - n) s.state.x s)
-unfolding cursor_to
-cuu_keeps n = record { commutes = λ st s. refl; stops = λ s. refl; cols = λ s. refl }
-
-pub cud_keeps : (n : ℕ) → Keeps (λ s. cursor_to (s.state.y + n) s.state.x s)
-unfolding cursor_to
-cud_keeps n = record { commutes = λ st s. refl; stops = λ s. refl; cols = λ s. refl }
-
-pub cuf_keeps : (n : ℕ) → Keeps (λ s. cursor_to s.state.y (s.state.x + n) s)
-unfolding cursor_to
-cuf_keeps n = record { commutes = λ st s. refl; stops = λ s. refl; cols = λ s. refl }
-
-pub cub_keeps : (n : ℕ) → Keeps (λ s. cursor_to s.state.y (s.state.x - n) s)
-unfolding cursor_to
-cub_keeps n = record { commutes = λ st s. refl; stops = λ s. refl; cols = λ s. refl }
-
-pub cnl_keeps : (n : ℕ) → Keeps (λ s. cursor_to (s.state.y + n) 0 s)
-unfolding cursor_to
-cnl_keeps n = record { commutes = λ st s. refl; stops = λ s. refl; cols = λ s. refl }
-
-pub cpl_keeps : (n : ℕ) → Keeps (λ s. cursor_to (s.state.y - n) 0 s)
-unfolding cursor_to
-cpl_keeps n = record { commutes = λ st s. refl; stops = λ s. refl; cols = λ s. refl }
-
-pub cha_keeps : (n : ℕ) → Keeps (λ s. cursor_to s.state.y (n - 1) s)
-unfolding cursor_to
-cha_keeps n = record { commutes = λ st s. refl; stops = λ s. refl; cols = λ s. refl }
-
-pub vpa_keeps : (n : ℕ) → Keeps (λ s. cursor_to_in_region (n - 1) s.state.x s)
-unfolding cursor_to_in_region cursor_to
-vpa_keeps n = record { commutes = λ st s. refl; stops = λ s. refl; cols = λ s. refl }
-
-pub ich_keeps : (n : ℕ) → Keeps (insert_characters n)
-unfolding insert_characters
-ich_keeps n = record { commutes = λ st s. refl; stops = λ s. refl; cols = λ s. refl }
-
-pub dch_keeps : (n : ℕ) → Keeps (delete_characters n)
-unfolding delete_characters
-dch_keeps n = record { commutes = λ st s. refl; stops = λ s. refl; cols = λ s. refl }
-
-pub ech_keeps : (n : ℕ) → Keeps (erase_characters n)
-unfolding erase_characters
-ech_keeps n = record { commutes = λ st s. refl; stops = λ s. refl; cols = λ s. refl }
-
-pub place_keeps : (y x : ℕ) → Keeps (cursor_to_in_region y x)
-unfolding cursor_to_in_region cursor_to
-place_keeps y x = record { commutes = λ st s. refl; stops = λ s. refl; cols = λ s. refl }
-
-pub below_erased_keeps : Keeps (λ s. without_pending_wrap (below_erased (line_end_erased s)))
-unfolding rows_erased
-below_erased_keeps = record { commutes = λ st s. refl; stops = λ s. refl; cols = λ s. refl }
-
-pub above_erased_keeps : Keeps (λ s. without_pending_wrap (above_erased (line_start_erased s)))
-unfolding rows_erased
-above_erased_keeps = record { commutes = λ st s. refl; stops = λ s. refl; cols = λ s. refl }
-
-pub all_erased_keeps : Keeps (λ s. without_pending_wrap (all_erased s))
-unfolding rows_erased
-all_erased_keeps = record { commutes = λ st s. refl; stops = λ s. refl; cols = λ s. refl }
-
 pub ed_keeps : (n : ℕ) → Keeps (erase_display n)
-unfolding erase_display
+unfolding erase_display rows_erased
 ed_keeps n =
-    keeps_if (λ s. n == 0) _ _ (λ st s. refl) below_erased_keeps
-    (keeps_if (λ s. n == 1) _ _ (λ st s. refl) above_erased_keeps
-    (keeps_if (λ s. n == 2 || n == 3) _ (λ s. s) (λ st s. refl) all_erased_keeps keeps_nothing))
-
-pub end_erased_keeps : Keeps (λ s. without_pending_wrap (line_end_erased s))
-end_erased_keeps = record { commutes = λ st s. refl; stops = λ s. refl; cols = λ s. refl }
-
-pub front_erased_keeps : Keeps (λ s. without_pending_wrap (line_start_erased s))
-front_erased_keeps = record { commutes = λ st s. refl; stops = λ s. refl; cols = λ s. refl }
-
-pub line_erased_keeps : Keeps (λ s. without_pending_wrap (line_erased 0 (s.grid.cols - 1) s))
-line_erased_keeps = record { commutes = λ st s. refl; stops = λ s. refl; cols = λ s. refl }
+    keeps_if (λ s. n == 0) _ _ (λ st s. refl) (plain _ (λ st s. refl))
+    (keeps_if (λ s. n == 1) _ _ (λ st s. refl) (plain _ (λ st s. refl))
+    (keeps_if (λ s. n == 2 || n == 3) _ (λ s. s) (λ st s. refl) (plain _ (λ st s. refl)) keeps_nothing))
 
 pub el_keeps : (n : ℕ) → Keeps (erase_line n)
 unfolding erase_line
 el_keeps n =
-    keeps_if (λ s. n == 0) _ _ (λ st s. refl) end_erased_keeps
-    (keeps_if (λ s. n == 1) _ _ (λ st s. refl) front_erased_keeps
-    (keeps_if (λ s. n == 2) _ (λ s. s) (λ st s. refl) line_erased_keeps keeps_nothing))
+    keeps_if (λ s. n == 0) _ _ (λ st s. refl) (plain _ (λ st s. refl))
+    (keeps_if (λ s. n == 1) _ _ (λ st s. refl) (plain _ (λ st s. refl))
+    (keeps_if (λ s. n == 2) _ (λ s. s) (λ st s. refl) (plain _ (λ st s. refl)) keeps_nothing))
 
 pub without_pending_wrap_keeps : Keeps (without_pending_wrap)
-without_pending_wrap_keeps = record { commutes = λ st s. refl; stops = λ s. refl; cols = λ s. refl }
-
-pub lines_down_keeps : (n : ℕ) → Keeps (λ s. with_grid s (scrolled_down s.grid s.state.y s.state.bottom n (blank_of s)))
-lines_down_keeps n = record { commutes = λ st s. refl; stops = λ s. refl; cols = λ s. refl }
-
-pub lines_up_keeps : (n : ℕ) → Keeps (λ s. with_grid s (scrolled_up s.grid s.state.y s.state.bottom n (blank_of s)))
-lines_up_keeps n = record { commutes = λ st s. refl; stops = λ s. refl; cols = λ s. refl }
+without_pending_wrap_keeps = plain _ (λ st s. refl)
 
 pub il_keeps : (n : ℕ) → Keeps (insert_lines n)
 unfolding insert_lines
 il_keeps n =
-    keeps_then _ without_pending_wrap (keeps_if in_region _ (λ s. s) (λ st s. refl) (lines_down_keeps n) keeps_nothing) without_pending_wrap_keeps
+    keeps_then _ without_pending_wrap (keeps_if in_region _ (λ s. s) (λ st s. refl) (plain _ (λ st s. refl)) keeps_nothing) without_pending_wrap_keeps
 
 pub dl_keeps : (n : ℕ) → Keeps (delete_lines n)
 unfolding delete_lines
 dl_keeps n =
-    keeps_then _ without_pending_wrap (keeps_if in_region _ (λ s. s) (λ st s. refl) (lines_up_keeps n) keeps_nothing) without_pending_wrap_keeps
-
-pub sgr_keeps : (params : List ℕ) → Keeps (after_sgr params)
-unfolding after_sgr
-sgr_keeps params = record { commutes = λ st s. refl; stops = λ s. refl; cols = λ s. refl }
-
-pub after_shift_keeps : (shift : ℕ) (on : Bool) → Keeps (after_shift shift on)
-unfolding after_shift
-after_shift_keeps shift on = record { commutes = λ st s. refl; stops = λ s. refl; cols = λ s. refl }
-
-pub save_keeps : Keeps (save)
-unfolding save
-save_keeps = record { commutes = λ st s. refl; stops = λ s. refl; cols = λ s. refl }
-
-pub restore_keeps : Keeps (restore)
-unfolding restore cursor_to
-restore_keeps = record { commutes = λ st s. refl; stops = λ s. refl; cols = λ s. refl }
-
-pub alignment_pattern_keeps : Keeps (alignment_pattern)
-unfolding alignment_pattern
-alignment_pattern_keeps = record { commutes = λ st s. refl; stops = λ s. refl; cols = λ s. refl }
-
-pub start_palette_keeps : Keeps (with_start_palette)
-unfolding with_start_palette
-start_palette_keeps = record { commutes = λ st s. refl; stops = λ s. refl; cols = λ s. refl }
-
-pub keypad_keeps : (on : Bool) → Keeps (with_keypad on)
-unfolding with_keypad
-keypad_keeps on = record { commutes = λ st s. refl; stops = λ s. refl; cols = λ s. refl }
-
-pub g0_keeps : (last : ℕ) → Keeps (with_g0 last)
-unfolding with_g0
-g0_keeps last = record { commutes = λ st s. refl; stops = λ s. refl; cols = λ s. refl }
-
-pub g1_keeps : (last : ℕ) → Keeps (with_g1 last)
-unfolding with_g1
-g1_keeps last = record { commutes = λ st s. refl; stops = λ s. refl; cols = λ s. refl }
-
-pub utf8_keeps : (on : Bool) → Keeps (λ s. with_state s (record s.state { utf8 = on }))
-utf8_keeps on = record { commutes = λ st s. refl; stops = λ s. refl; cols = λ s. refl }
+    keeps_then _ without_pending_wrap (keeps_if in_region _ (λ s. s) (λ st s. refl) (plain _ (λ st s. refl)) keeps_nothing) without_pending_wrap_keeps
 
 pub coding_keeps : (last : ℕ) → Keeps (with_coding last)
 unfolding with_coding
 coding_keeps last =
-    keeps_if (λ s. last == 0x40) _ _ (λ st s. refl) (utf8_keeps false)
-    (keeps_if (λ s. last == 0x47) _ _ (λ st s. refl) (utf8_keeps true)
-    (keeps_if (λ s. last == 0x38) _ (λ s. s) (λ st s. refl) (utf8_keeps true) keeps_nothing))
-
-pub insert_mode_keeps : (on : Bool) → Keeps (λ s. with_state s (record s.state { insert = on }))
-insert_mode_keeps on = record { commutes = λ st s. refl; stops = λ s. refl; cols = λ s. refl }
-
-pub newline_mode_keeps : (on : Bool) → Keeps (λ s. with_state s (record s.state { newline = on }))
-newline_mode_keeps on = record { commutes = λ st s. refl; stops = λ s. refl; cols = λ s. refl }
-
-pub cursor_mode_keeps : (on : Bool) → Keeps (λ s. with_state s (record s.state { cursor = on }))
-cursor_mode_keeps on = record { commutes = λ st s. refl; stops = λ s. refl; cols = λ s. refl }
-
-pub reverse_mode_keeps : (on : Bool) → Keeps (λ s. with_state s (record s.state { reverse = on }))
-reverse_mode_keeps on = record { commutes = λ st s. refl; stops = λ s. refl; cols = λ s. refl }
-
-pub autowrap_mode_keeps : (on : Bool) → Keeps (λ s. with_state s (record s.state { autowrap = on }))
-autowrap_mode_keeps on = record { commutes = λ st s. refl; stops = λ s. refl; cols = λ s. refl }
-
-pub repeat_mode_keeps : (on : Bool) → Keeps (λ s. with_state s (record s.state { repeat = on }))
-repeat_mode_keeps on = record { commutes = λ st s. refl; stops = λ s. refl; cols = λ s. refl }
-
-pub visible_mode_keeps : (on : Bool) → Keeps (λ s. with_state s (record s.state { visible = on }))
-visible_mode_keeps on = record { commutes = λ st s. refl; stops = λ s. refl; cols = λ s. refl }
-
-pub display_keeps : (on : Bool) → Keeps (λ s. with_pen s (record s.state.pen { display = on }))
-display_keeps on = record { commutes = λ st s. refl; stops = λ s. refl; cols = λ s. refl }
-
-pub origin_keeps : (on : Bool) → Keeps (λ s. cursor_home (with_state s (record s.state { origin = on })))
-unfolding cursor_to_in_region cursor_to
-origin_keeps on = record { commutes = λ st s. refl; stops = λ s. refl; cols = λ s. refl }
+    keeps_if (λ s. last == 0x40) _ _ (λ st s. refl) (plain _ (λ st s. refl))
+    (keeps_if (λ s. last == 0x47) _ _ (λ st s. refl) (plain _ (λ st s. refl))
+    (keeps_if (λ s. last == 0x38) _ (λ s. s) (λ st s. refl) (plain _ (λ st s. refl)) keeps_nothing))
 
 pub mode_keeps : (on : Bool) (n : ℕ) → Keeps (with_mode on n)
 unfolding with_mode
 mode_keeps on n =
-    keeps_if (λ s. n == 3) _ _ (λ st s. refl) (display_keeps on)
-    (keeps_if (λ s. n == 4) _ _ (λ st s. refl) (insert_mode_keeps on)
-    (keeps_if (λ s. n == 20) _ (λ s. s) (λ st s. refl) (newline_mode_keeps on) keeps_nothing))
+    keeps_if (λ s. n == 3) _ _ (λ st s. refl) (plain _ (λ st s. refl))
+    (keeps_if (λ s. n == 4) _ _ (λ st s. refl) (plain _ (λ st s. refl))
+    (keeps_if (λ s. n == 20) _ (λ s. s) (λ st s. refl) (plain _ (λ st s. refl)) keeps_nothing))
 
 pub private_keeps : (on : Bool) (n : ℕ) → Keeps (with_private_mode on n)
-unfolding with_private_mode
+unfolding with_private_mode cursor_to_in_region cursor_to
 private_keeps on n =
-    keeps_if (λ s. n == 1) _ _ (λ st s. refl) (cursor_mode_keeps on)
-    (keeps_if (λ s. n == 5) _ _ (λ st s. refl) (reverse_mode_keeps on)
-    (keeps_if (λ s. n == 6) _ _ (λ st s. refl) (origin_keeps on)
-    (keeps_if (λ s. n == 7) _ _ (λ st s. refl) (autowrap_mode_keeps on)
-    (keeps_if (λ s. n == 8) _ _ (λ st s. refl) (repeat_mode_keeps on)
-    (keeps_if (λ s. n == 25) _ (λ s. s) (λ st s. refl) (visible_mode_keeps on) keeps_nothing)))))
+    keeps_if (λ s. n == 1) _ _ (λ st s. refl) (plain _ (λ st s. refl))
+    (keeps_if (λ s. n == 5) _ _ (λ st s. refl) (plain _ (λ st s. refl))
+    (keeps_if (λ s. n == 6) _ _ (λ st s. refl) (plain _ (λ st s. refl))
+    (keeps_if (λ s. n == 7) _ _ (λ st s. refl) (plain _ (λ st s. refl))
+    (keeps_if (λ s. n == 8) _ _ (λ st s. refl) (plain _ (λ st s. refl))
+    (keeps_if (λ s. n == 25) _ (λ s. s) (λ st s. refl) (plain _ (λ st s. refl)) keeps_nothing)))))
 
 pub each_keeps : (f : ℕ → Screen → Screen) → ((n : ℕ) → Keeps (f n)) → (numbers : List ℕ) → Keeps (each f numbers)
 each_keeps f one [] = keeps_nothing
 each_keeps f one (n ∷ numbers) = keeps_then (f n) (each f numbers) (one n) (each_keeps f one numbers)
 
-pub region_set_keeps : (t b : ℕ) → Keeps (λ s. cursor_home (with_state s (record s.state { top = t - 1; bottom = (if b == 0 then s.grid.rows else b) - 1 })))
-unfolding cursor_to_in_region cursor_to
-region_set_keeps t b = record { commutes = λ st s. refl; stops = λ s. refl; cols = λ s. refl }
-
 pub region_keeps : (t b : ℕ) → Keeps (with_region t b)
-unfolding with_region
+unfolding with_region cursor_to_in_region cursor_to
 region_keeps t b =
     keeps_if (λ s. nat_lt t (if b == 0 then s.grid.rows else b) && nat_le (if b == 0 then s.grid.rows else b) s.grid.rows) _ (λ s. s)
-    (λ st s. refl) (region_set_keeps t b) keeps_nothing
-
-pub colour_set_keeps : (n : ℕ) (rgb : Rgb) → Keeps (λ s. with_state s (record s.state { palette = slice_set s.state.palette n rgb }))
-colour_set_keeps n rgb = record { commutes = λ st s. refl; stops = λ s. refl; cols = λ s. refl }
+    (λ st s. refl) (plain _ (λ st s. refl)) keeps_nothing
 
 pub colour_keeps : (n : ℕ) (rgb : Rgb) → Keeps (with_colour n rgb)
 unfolding with_colour
-colour_keeps n rgb = keeps_if (λ s. nat_lt n 16) _ (λ s. s) (λ st s. refl) (colour_set_keeps n rgb) keeps_nothing
-
-pub underline_keeps : (n : ℕ) → Keeps (with_underline_colour n)
-underline_keeps n = record { commutes = λ st s. refl; stops = λ s. refl; cols = λ s. refl }
-
-pub dim_keeps : (n : ℕ) → Keeps (with_dim_colour n)
-dim_keeps n = record { commutes = λ st s. refl; stops = λ s. refl; cols = λ s. refl }
-
-pub pair_keeps : Keeps (with_default_pair)
-pair_keeps = record { commutes = λ st s. refl; stops = λ s. refl; cols = λ s. refl }
+colour_keeps n rgb = keeps_if (λ s. nat_lt n 16) _ (λ s. s) (λ st s. refl) (plain _ (λ st s. refl)) keeps_nothing
