@@ -11,7 +11,7 @@ use crate::World;
 use crate::trace::MOST_MARKS;
 use crate::wanted::Wanted;
 use vt_base::ConsoleNo;
-use vt_screen::{Out, SideEffect, any_cut};
+use vt_screen::{Out, SideEffect};
 
 impl World {
     /// Runs a text on a console, and carries out its side effects.
@@ -20,7 +20,6 @@ impl World {
         requires short { length b.now ≤ 4096 }
         ensures { self.new ≡ apply_deeds self.old (write_deeds self.old c b.now) }
     {
-        any_cut();
         let mut effect = SideEffect::new();
         let mut at = self.run_part(c, b, &mut effect);
         while at < b.len() {

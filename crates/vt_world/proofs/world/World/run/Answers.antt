@@ -1,6 +1,7 @@
 use Rattle.std.proofs.Common.{◌≡◌, ◌≤◌, ℕ, ◌+◌, ◌-◌, ◌*◌, ◌++◌, List, length, take, drop, sym, ap, ◌∙◌, subst, arith}
 use Rattle.std.proofs.Math.Seq.{take-add}
 use Rattle.std.proofs.lemmas.List.{length-drop, length-take, take_all}
+use Rattle.vt_screen.proofs.Stated.{any_cut}
 use Rattle.vt_screen.proofs.for_laws.Asking.{requests_are_few}
 use Rattle.vt_screen.specs.Asking.{requests}
 use Rattle.vt_canvas.specs.declared.out.Out.{Out}
@@ -36,7 +37,7 @@ run_part-at-requires-in-loop-at c =
           let asked =
           ap (λ (w : WorldState). requests (up_to start c.args.c (take at text)) + requests (up_to w c.args.c piece))
           c.loop-at.invariant.done
-          ∙ ran-asks c.any_cut.ensures start c.args.c (take at text) piece
+          ∙ ran-asks any_cut start c.args.c (take at text) piece
           ∙ ap (λ (bytes : List ℕ). requests (up_to start c.args.c bytes)) (sym fed) in
           let few = asks_few requests_are_few (terminal_at start.terminals c.args.c) (take (at + n) text) in
           let short : length (take (at + n) text) ≤ 4096 = omega (arith, length-take (at + n) text, c.requires.short) in
@@ -57,7 +58,7 @@ loop-at-preserved c =
     let asked =
     ap (λ (w : WorldState). requests (up_to start c.args.c (take at text)) + requests (up_to w c.args.c piece))
     c.loop-at.invariant.done
-    ∙ ran-asks c.any_cut.ensures start c.args.c (take at text) piece
+    ∙ ran-asks any_cut start c.args.c (take at text) piece
     ∙ ap (λ (bytes : List ℕ). requests (up_to start c.args.c bytes)) (sym fed) in
     let room = subst
     (λ (bytes : List ℕ). length c.run_part-at-in-loop-at.new.self.trace.marks
@@ -69,7 +70,7 @@ loop-at-preserved c =
           c.run_part-at-in-loop-at.ensures.state
           ∙ ap (ran c.loop-at.self c.args.c) cut
           ∙ ap (λ (w : WorldState). ran w c.args.c piece) c.loop-at.invariant.done
-          ∙ ran-append c.any_cut.ensures start c.args.c (take at text) piece
+          ∙ ran-append any_cut start c.args.c (take at text) piece
           ∙ ap (ran start c.args.c) (sym fed);
       room = omega (arith, asked, room, c.loop-at.invariant.room);
     }
