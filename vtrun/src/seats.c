@@ -91,12 +91,14 @@ static unsigned take_seat(pid_t pid, uid_t user, uint8_t home)
     char path[32];
     int pidfd = (int)syscall(SYS_pidfd_open, pid, 0);
     snprintf(path, sizeof path, "/proc/%d", pid);
-    int folder = open(path, O_PATH | O_DIRECTORY | O_CLOEXEC);
-    unsigned i = pidfd < 0 || folder < 0 ? 0 : free_seat(home, has_privilege(user));
+    int folder = pidfd < 0 ? -1 : open(path, O_PATH | O_DIRECTORY | O_CLOEXEC);
+    unsigned i = folder < 0 ? 0 : free_seat(home, has_privilege(user));
     if (!i) {
-        int error = pidfd < 0 || folder < 0 ? errno : EUSERS;
-        close(pidfd);
-        close(folder);
+        int error = folder < 0 ? errno : EUSERS;
+        if (pidfd >= 0)
+            close(pidfd);
+        if (folder >= 0)
+            close(folder);
         if (error == EUSERS)
             tell_refusal(pid);
         errno = error;
