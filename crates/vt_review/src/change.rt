@@ -5,12 +5,12 @@ ghost use Rattle.vt_review.specs.Announcements.{left_by};
 use vt_events::Entry;
 use vt_world::World;
 
-/// What an entry of a journal did: its place, the machine before and after it, and the entry.
+/// What an entry of a journal did: its place, the machine before and after it, and the entry that was made.
 #[derive(Clone, Copy)]
 pub(crate) struct Change<'a> {
     pub place: u32,
     pub before: &'a World,
     pub after: &'a World,
-    pub entry: &'a Entry,
-    ghost left: { after.now ≡ left_by before.now entry.now },
+    pub made: &'a Entry,
+    ghost left: { after.now ≡ left_by before.now made.now },
 }

@@ -8,7 +8,7 @@ ghost use Rattle.vt_review.specs.Lines.{ear_lines, words_of};
 ghost use Rattle.vt_switch.specs.Moments.{hops};
 
 use crate::lines::{ROW, add_lines, add_row_line};
-use crate::screens::Rows;
+use crate::screens::ConsoleScreens;
 use crate::{Ear, Listener, Notice};
 use std::alloc::Global;
 use vt_base::{Bytes, ConsoleNo, NoMemory};
@@ -65,7 +65,7 @@ pub(crate) fn tell_row<F: Listener>(
     alloc: Global,
     text: &mut Bytes,
     ears: &[Ear<F>],
-    rows: &Rows<'_>,
+    rows: &ConsoleScreens<'_>,
     words: &[u8],
     y: u8,
 ) -> Result<(), NoMemory>

@@ -9,7 +9,7 @@ ghost use Rattle.vt_world.specs.Terminals.{terminal_at};
 use crate::change::Change;
 use crate::changes::changed_rows;
 use crate::entry_lines::{tell_bell, tell_hops};
-use crate::screens::{Rows, tell_rows};
+use crate::screens::{ConsoleScreens, tell_rows};
 use crate::touching::touched;
 use crate::{Ear, Listener};
 use std::alloc::Global;
@@ -69,7 +69,7 @@ impl<F: Listener> Witness for Reviewer<'_, F> {
             place,
             before: &self.behind,
             after,
-            entry,
+            made: entry,
         };
         tell_entry(alloc, &mut self.text, self.ears, change)?;
         let _answer = self.behind.call(alloc, entry.caller, &entry.event)?; // it is the entry's
@@ -87,7 +87,7 @@ fn tell_entry<F: Listener>(
     ensures { OnOk result (text.new.bytes
         ≡ text.old.bytes ++ entry_lines ears.now change.entry.place change.entry.before.now change.entry.after.now) }
 {
-    match touched(change.before, change.entry.caller, &change.entry.event) {
+    match touched(change.before, change.made.caller, &change.made.event) {
         Some(console) => tell_touched(alloc, text, ears, change, console),
         None => tell_untouched(alloc, text, ears, change),
     }
@@ -139,8 +139,8 @@ fn tell_screen<F: Listener>(
     match change.before.screen(console) {
         Some(old) => {
             old.grid().stays_full();
-            let (first, last) = changed_rows(old, grid, &change.entry.event);
-            let rows = Rows {
+            let (first, last) = changed_rows(old, grid, &change.made.event);
+            let rows = ConsoleScreens {
                 place: change.place,
                 console,
                 before: Some(old.grid()),
@@ -149,7 +149,7 @@ fn tell_screen<F: Listener>(
             tell_rows(alloc, text, ears, &rows, first, last)
         }
         None => {
-            let rows = Rows {
+            let rows = ConsoleScreens {
                 place: change.place,
                 console,
                 before: None,

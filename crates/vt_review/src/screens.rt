@@ -21,7 +21,7 @@ const FEW_CELLS: u8 = 8;
 
 /// The screens of a console before and after the entry at a place; none before if the console wasn't allocated.
 #[derive(Clone, Copy)]
-pub(crate) struct Rows<'a> {
+pub(crate) struct ConsoleScreens<'a> {
     pub place: u32,
     pub console: ConsoleNo,
     pub before: Option<&'a Grid>,
@@ -34,7 +34,7 @@ pub(crate) fn tell_rows<F: Listener>(
     alloc: Global,
     text: &mut Bytes,
     ears: &[Ear<F>],
-    rows: &Rows<'_>,
+    rows: &ConsoleScreens<'_>,
     first: u8,
     last: u8,
 ) -> Result<(), NoMemory>
@@ -60,7 +60,7 @@ fn tell_if_new<F: Listener>(
     alloc: Global,
     text: &mut Bytes,
     ears: &[Ear<F>],
-    rows: &Rows<'_>,
+    rows: &ConsoleScreens<'_>,
     words: &[u8],
     y: u8,
     most: u8,
