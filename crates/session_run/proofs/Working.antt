@@ -2,12 +2,14 @@
 use Rattle.std.proofs.Common.{◌≡◌, ◌⊎◌, ℕ, Bool, true, false, ⊎_elim, inl, inr, true≢false, List, [], ◌∷◌, ◌++◌, map, Option, Some, None, refl, sym, ap, ◌∙◌, subst}
 use Rattle.std.proofs.lemmas.Bool.{cases_Bool}
 use Rattle.std.proofs.lemmas.List.{map-append}
+use Rattle.std.proofs.lemmas.Option.{none-some, same_Some}
 use Rattle.atomic_table.specs.Seated.{TableId}
 use Rattle.session_order.specs.Calls.{as_meant, call_of}
 use Rattle.session_order.specs.Meant.{NextIsMeant, NextIsPlain}
 use Rattle.session_order.proofs.Standings.{Walks, next_after, stands_more}
 use Rattle.session_order.specs.Races.{IsRun, RunsGrow}
 use Rattle.session_order.specs.Standing.{IsWalkAfter}
+use Rattle.session_run.specs.Racing.{Works}
 use Rattle.session_text.specs.Programs.{Call, WaitsAreEnded, call, next}
 use Rattle.session_text.specs.Walks.{Place, Stands}
 use Rattle.session_text.specs.declared.program.Program.{Program}
@@ -18,11 +20,13 @@ use Rattle.vt_events.specs.declared.event.Event.{Event}
 use Rattle.vt_events.specs.declared.event.Event.TheVariants as event
 use Rattle.vt_events.specs.declared.reply.Reply.{Reply}
 use Rattle.vt_events.specs.declared.reply.Reply.TheVariants as reply
-use Rattle.vt_hub.specs.Answers.{Answers, Called}
+use Rattle.turn_lock.specs.declared.seal.Seal.{Seal}
+use Rattle.vt_hub.specs.Answers.{Answers, Called, Stopped}
 use Rattle.vt_hub.specs.Histories.{awaits, waits_by}
 use Rattle.vt_hub.specs.Views.{PassView}
 use Rattle.vt_hub.specs.declared.answer.Answer.{Answer}
 use Rattle.vt_hub.specs.declared.answer.Answer.TheVariants as answer
+use Rattle.vt_journal.specs.declared.full.Full.{Full}
 use Rattle.vt_journal.specs.declared.limits.Limits.{Limits}
 use Rattle.vt_world.specs.State.{WorldState}
 use Rattle.vt_world.specs.Refusals.{ends_wait}
@@ -113,3 +117,35 @@ pub works-on : NextIsMeant → NextIsPlain → RunsGrow → (start : WorldState)
 works-on is_meant is_plain grows start most program walk moved here number e v w place r a at gives answers is walks =
     let called : Called start most e v w place r = subst (Answers start most e v w) is answers in
     works_on is_meant is_plain grows start most program walk moved here number e v w place r at gives called walks
+
+-- its program is over
+pub works_over : NextIsMeant → (program : Program) (walk : Place) (here : TableId) (number : ℕ) (q : PassView)
+    → AtWork program walk here number q → Gives program walk None → Works program q
+works_over is_meant program walk here number q at gives = record {
+  run = at.run;
+  over = λ none. sym (next_after is_meant program walk (map call_of q.mine) None at.stands gives);
+  left = λ z met. absurd (none-some z (sym at.goes ∙ met));
+}
+
+-- its call found the hub stopped, or no room
+pub works_stopped : NextIsMeant → (start : WorldState) (most : Limits) (program : Program) (walk : Place) (here : TableId) (number : ℕ) (e : Event) (v w : PassView) (full : Full) (a : Answer)
+    → AtWork program walk here number v → Gives program walk (Some e)
+    → Answers start most e v w a → a ≡ answer.Full full → Works program w
+works_stopped is_meant start most program walk here number e v w full a at gives answers is =
+    let stopped : Stopped start most e v w full = subst (Answers start most e v w) is answers in
+    let stop : Seal Full = record { by = stopped.by; what = full } in
+    let next_is : next program (map call_of w.mine) ≡ Some e =
+    ap (λ made. next program (map call_of made)) stopped.mine
+    ∙ sym (next_after is_meant program walk (map call_of v.mine) (Some e) at.stands gives) in
+    record {
+      run = subst (IsRun program) (sym stopped.mine) at.run;
+      over = λ none. absurd (none-some stop (sym none ∙ stopped.met));
+      left = λ z met own.
+          let same : z ≡ stop = same_Some z stop (sym met ∙ stopped.met) in
+          let by : stopped.by ≡ v.number = sym (ap (λ (s : Seal Full). s.by) same) ∙ own ∙ stopped.number in
+          record {
+            call = e;
+            next = next_is;
+            charge_is = sym (ap (λ (s : Seal Full). s.what.charge) same ∙ stopped.charge at.goes by);
+          };
+    }

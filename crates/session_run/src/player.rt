@@ -8,14 +8,14 @@ ghost use Rattle.session_text.specs.Programs.{program_of};
 ghost use Rattle.vt_events.specs.Charge.{charge_of};
 ghost use Rattle.vt_journal.specs.Log.{HasRoom};
 
-use session_order::{SessionProgress, meant_laws, serial_laws, session_laws, start_of};
+use session_order::{SessionProgress, session_laws, start_of};
 use session_text::{Program, Session};
 use std::alloc::Global;
 use vt_base::{CallerNo, NoMemory};
 use vt_events::{Entry, Event, charge};
 use vt_hub::Run;
 use vt_journal::{Full, Log};
-use vt_world::{World, legal_grows};
+use vt_world::World;
 
 /// A machine, its journal so far, how far each caller is, and where the play stopped.
 #[derive(Drop)]
@@ -31,7 +31,6 @@ impl Player {
     pub(crate) fn open(alloc: Global, s: &Session) -> Result<Player, NoMemory>
         ensures { IfOk result (λ player. IsAt (setup_of s.now) nothing_played player) }
     {
-        legal_grows();
         let limits = s.limits();
         let world = start_of(alloc, s)?;
         let log = Log::with_room(alloc, limits.events, limits.bytes)?;
@@ -76,8 +75,6 @@ impl Player {
         ensures serial { IsSerial (setup_of s.now) s.now.turns (run_result result) }
         ensures right { IsRightRun s.now result }
     {
-        serial_laws();
-        meant_laws();
         session_laws(s);
         let Player {
             world,
@@ -105,8 +102,6 @@ impl Player {
             → IsAt o (record { history = t.history ++ entry_at o.start t.history p event ∷ []; stop = None })
             self.new) }
     {
-        legal_grows();
-        meant_laws();
         let _entries = self.log.entries(); // it says that the entries are few
         let reply = self.world.call(alloc, p, &event)?;
         let seq = self.standing.count(p);

@@ -6,7 +6,7 @@ ghost use Rattle.session_run.specs.Runs.{HasHooks, IsRightRun, MakesHandlers};
 use crate::callers::Callers;
 use crate::hooks::hooks_by;
 use crate::passes::{join_all, split_all, work_all};
-use session_order::{race_laws, session_laws, start_of};
+use session_order::{session_laws, start_of};
 use session_text::Session;
 use sig_hooks::{Handler, Hook, HookTable};
 use std::alloc::Global;
@@ -16,7 +16,6 @@ use std::thread::Threads;
 use vt_base::{NoMemory, Signal};
 use vt_hub::{Hub, Opening, Run, Seat};
 use vt_io::Gate;
-use vt_world::nobody_waits_at_start;
 
 /// Races the session: one worker for each caller, in a thread of its own, on one shared machine. There is
 /// a hook for each process, with that process's table. Each worker asks the gate before each call. If no
@@ -78,9 +77,7 @@ fn race_in<
     requires hooks { HasHooks s.now.programs hooks.items }
     ensures { IfOk result (IsRightRun s.now) }
 {
-    race_laws();
     session_laws(s);
-    nobody_waits_at_start();
     let callers = Callers::of(alloc, s, hooks)?;
     let world = start_of(alloc, s)?;
     let (hub, mut steward) = Hub::<J>::open(alloc, world, s.limits())?;

@@ -6,7 +6,6 @@ ghost use Rattle.session_run.specs.Playing.{IsAt, IsEnd};
 
 use crate::callers::Callers;
 use crate::player::Player;
-use session_order::serial_laws;
 use sig_hooks::Handler;
 use std::alloc::Global;
 use vt_base::{CallerNo, NoMemory};
@@ -59,7 +58,6 @@ impl Player {
             → o.programs ≡ callers.now → o.limits.events ≡ events
             → IsAt o (turns o first nothing_played) self.old → IsEnd o first self.new) }
     {
-        serial_laws();
         for _round in 0..events + 1 {
             let before = self.log.entries().len();
             self.round(alloc, callers)?;

@@ -4,8 +4,7 @@ ghost use Rattle.session_run.specs.Racing.{IsFresh, Works};
 
 use crate::caller::Caller;
 use crate::pace::Stride;
-use session_order::{meant_laws, race_laws};
-use session_text::{Walk, waits_are_ended};
+use session_text::Walk;
 use sig_hooks::Handler;
 use std::sync::Wait;
 use vt_base::NoMemory;
@@ -26,9 +25,6 @@ pub(crate) fn work<J: Opening, H: Handler, G: Gate, R: Wait>(
     ensures number { IfOk result (λ q. q.number ≡ pass.number) }
     ensures works { IfOk result (λ q. Works caller.now q) }
 {
-    meant_laws();
-    race_laws();
-    waits_are_ended();
     let p = pass.number();
     let program = caller.program();
     let mut pass = pass;

@@ -1,6 +1,8 @@
 use Rattle.std.proofs.Common.{arith, length, refl, ap}
+use Rattle.session_order.proofs.Stated.{meant_laws-plain}
 use Rattle.session_run.proofs.Plays.{Enters, entered}
 use Rattle.session_run.specs.declared.player.Player.{Player}
+use Rattle.vt_world.proofs.Stated.{legal_grows-entered}
 use Rattle.session_run.proofs.player.Player.enter.Goals as goal
 
 pub returns : goal.returns
@@ -21,5 +23,5 @@ returns c = λ o t is going now at.
       took = c.took.ensures;
       stop = refl;
     } in
-    entered c.meant_laws.ensures.plain c.legal_grows.ensures.entered o t c.args.p c.args.event c.args.program.now
+    entered meant_laws-plain legal_grows-entered o t c.args.p c.args.event c.args.program.now
     c.args.self.now after enters is going now at

@@ -1,6 +1,7 @@
 use Rattle.std.proofs.Common.{refl, ap, ◌∙◌}
 use Rattle.session_order.specs.Meant.{plain_history}
 use Rattle.session_order.specs.Sessions.{setup_of}
+use Rattle.vt_world.proofs.Stated.{legal_grows-nothing}
 use Rattle.session_run.proofs.player.Player.open.Goals as goal
 
 pub returns : goal.returns
@@ -9,7 +10,7 @@ returns c = record {
   stop = refl;
   limits = c.in_ok-log.ensures.limits ∙ c.limits-limits.ensures.same;
   left = record {
-    legal = c.legal_grows.ensures.nothing (setup_of c.args.s.now).start;
+    legal = legal_grows-nothing (setup_of c.args.s.now).start;
     replayed = c.in_ok-world.ensures;
   };
   standing = c.in_ok-standing.ensures (setup_of c.args.s.now).programs;
