@@ -1,5 +1,5 @@
-//! Tests of behaviour that no command shows: the machine's marks, spares and counts, walks through programs,
-//! and hooks that are asked. Behaviour that a command or a single call shows is in the data of `cases`.
+//! Tests of consoles: a machine and its walks, the machine that threads share with cooked lines above it, and
+//! races. Behaviour that a command or a single call shows is in the data of `cases`.
 #![tactic(auto)]
 
 #[cfg(test)]

@@ -4,6 +4,7 @@ use session_order::{SessionProgress, start_of};
 use session_text::{Session, program_of};
 use std::alloc::Global;
 use vt_base::{Bytes, CallerNo, NoMemory};
+use vt_events::{Event, Reply};
 use vt_journal::{add_event, add_reply};
 use vt_world::World;
 
@@ -30,7 +31,7 @@ pub(crate) fn add_calls(
     Ok(())
 }
 
-// Adds the line of the caller's next call.
+// Makes the caller's next call, and adds its line.
 fn add_turn(
     alloc: Global,
     text: &mut Bytes,
@@ -45,12 +46,25 @@ fn add_turn(
     let Some(event) = progress.walk(p).next(alloc, program)? else {
         return Ok(());
     };
-    add_caller(alloc, text, p)?;
-    add(alloc, text, b" ")?;
-    add_number(alloc, text, u64::from(progress.count(p)))?;
-    add_event(alloc, text, &event)?;
+    let seq = progress.count(p);
     let reply = world.call(alloc, p, &event)?;
     progress.took(p, program, &reply);
+    add_line(alloc, text, p, seq, &event, &reply)
+}
+
+// Adds the line of a call, without its LF.
+fn add_line(
+    alloc: Global,
+    text: &mut Bytes,
+    p: CallerNo,
+    seq: u32,
+    event: &Event,
+    reply: &Reply,
+) -> Result<(), NoMemory> {
+    add_caller(alloc, text, p)?;
+    add(alloc, text, b" ")?;
+    add_number(alloc, text, u64::from(seq))?;
+    add_event(alloc, text, event)?;
     add(alloc, text, b" =")?;
-    add_reply(alloc, text, &reply)
+    add_reply(alloc, text, reply)
 }

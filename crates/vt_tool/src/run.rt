@@ -15,7 +15,6 @@ use std::alloc::Global;
 use std::sync::Wait;
 use std::thread::Threads;
 use vt_io::{Gate, Sink, Source};
-use vt_world::{displays_are_lawful, refused_calls_change_nothing};
 
 /// Runs the command of the words over the source and the sinks. `race` gives each caller a thread, and calls the
 /// gate before each call on the machine. Every other command is done by `vt_command`.
@@ -38,8 +37,6 @@ pub fn vt_run<S: Source, O: Sink, E: Sink, G: Gate + Sync, R: Threads + Wait + S
         (record { src = S.stream src.old; out = O.stream out.old; err = E.stream err.old })
         (record { src = S.stream src.new; out = O.stream out.new; err = E.stream err.new }) result }
 {
-    displays_are_lawful();
-    refused_calls_change_nothing();
     if !is_race(words) {
         return vt_command(alloc, words, src, out, err);
     }

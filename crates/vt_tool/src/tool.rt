@@ -13,7 +13,6 @@ use crate::writing::write_answer;
 use std::alloc::Global;
 use vt_base::Size;
 use vt_io::{Sink, Source};
-use vt_world::{displays_are_lawful, refused_calls_change_nothing};
 
 /// Runs the command of the words over the source and the sinks: its text goes to `out`, and the line of a status
 /// other than Fine to `err`. It has every command except `race`, which needs threads.
@@ -34,8 +33,6 @@ pub fn vt_command<S: Source, O: Sink, E: Sink>(
         (record { src = S.stream src.old; out = O.stream out.old; err = E.stream err.old })
         (record { src = S.stream src.new; out = O.stream out.new; err = E.stream err.new }) result }
 {
-    displays_are_lawful();
-    refused_calls_change_nothing();
     let first = begin(alloc, words, src, out);
     write_status(err, first)
 }

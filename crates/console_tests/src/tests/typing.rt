@@ -1,142 +1,222 @@
-//! Scan bytes, and side effects of texts. Expected queues and displays were computed by hand from
-//! docs/reference/switching.md.
-use super::row::Row;
-use super::row::Row::{Call, Front, Keyed, Queue, Queued};
-use super::{check, check_all, check_row, made, open};
+//! A shared machine: one thread types on its keyboard, and a process in another reads a line by turns.
+ghost use Rattle.std.specs.Prelude.{◌≡◌, ℕ, false, IfOk};
+ghost use Rattle.vt_hub.specs.Ready.{IsReady};
+ghost use Rattle.vt_world.specs.State.{is_waiting};
+
+use super::shared::{LIMITS, ask, closed, started};
+use cooked::{Given, Stop, Termios, Tty};
 use std::alloc::Global;
+use std::marker::Brand;
 use std::process::Abort;
+use std::sync::Wait;
 use std::test::Fail;
-use vt_base::NoMemory;
+use std::thread;
+use std::thread::Threads;
+use vt_base::{CallerNo, Errno, NoMemory};
+use vt_events::Event;
+use vt_hub::{Hub, Opening, Pass, Run, Seat, Steward};
 use vt_world::World;
 
-// Consoles 1 to 3, of which 2 is in front, and a privileged process.
-const TYPED: &str = "rows = 1
-cols = 3
-consoles = [1, 2, 3]
-front = 2
+const SESSION: &str = "rows = 2
+cols = 10
+consoles = [1]
 keymap = '''
 keymaps 0
+keycode 14 = Delete
+keycode 28 = Return
 keycode 30 = a
-keycode 2 = Console_3
-keycode 3 = Last_Console
-keycode 4 = Incr_Console
-keycode 5 = Decr_Console
+keycode 48 = b
 '''
-process = [{privileged = true}]
+[[process]]
+home = 1
+script = []
 ";
 
-#[test]
-fn types_into_the_console_in_front(rt: HostRuntime) -> Result<(), Fail> {
-    for rows in [SCANS, TEXT] {
-        check(&rt, rt.alloc(), TYPED, rows)?;
+// `a`, `b`, an erase and Return, each pressed and released.
+const SCANS: [u8; 8] = [0x1E, 0x9E, 0x30, 0xB0, 0x0E, 0x8E, 0x1C, 0x9C];
+
+// Makes a call of a pass that doesn't wait, and returns whether its answer was "wait".
+fn make<J: Opening, R: Wait>(
+    seat: &Seat<J, R>,
+    pass: &mut Pass<J>,
+    event: Event,
+) -> Result<bool, NoMemory>
+    requires { IsReady seat.now false pass.old }
+    ensures { IfOk result (λ waits. IsReady seat.now waits pass.new) }
+{
+    let answer = ask(seat, pass, false, event)?;
+    Ok(answer.is_wait())
+}
+
+// Types all keys.
+fn press<J: Opening, R: Wait>(seat: &Seat<J, R>, pass: Pass<J>) -> Result<Pass<J>, NoMemory>
+    requires { IsReady seat.now false pass }
+    ensures { IfOk result (λ pass. pass.hub ≡ seat.now) }
+{
+    let mut pass = pass;
+    for b in SCANS {
+        if make(seat, &mut pass, Event::Scan(b))? {
+            return Ok(pass);
+        }
     }
-    Ok(())
+    Ok(pass)
 }
 
-// Scan bytes, and the console in front after each; the last rows are that no process may scan, and that the
-// keyboard scans alone.
-const SCANS: &[Row] = &[
-    Keyed("scan 1e", 2),
-    Keyed("scan 02", 3),
-    Keyed("scan 9e", 3),
-    Keyed("scan 1e", 3),
-    Keyed("scan 03", 2),
-    Keyed("scan 04", 3),
-    Keyed("scan 84", 3),
-    Keyed("scan 04", 1),
-    Keyed("scan 05", 3),
-    Keyed("scan 85", 3),
-    Keyed("scan 05", 2),
-    Queue(1, b"", 0),
-    Queue(2, b"a", 0),
-    Queue(3, b"a", 0),
-    Call(1, "scan 1e", "err 25"),
-    Call(0, "open 1", "err 25"),
-];
-
-// ESC [ 6 n, ESC [ 12 ; 3 ], ESC [ 15 ] and ESC [ 12 ; 4 ]: the report goes to the text's own console, and the
-// display to 3 and back, since 4 isn't allocated. The key then requests the previous console.
-const TEXT: &[Row] = &[
-    Call(1, "open 1", "num 0"),
-    Call(
-        1,
-        "write 0 1b5b366e1b5b31323b335d1b5b31355d1b5b31323b345d",
-        "num 23",
-    ),
-    Queue(1, b"\x1B[1;1R", 0),
-    Front(2),
-    Keyed("scan 03", 3),
-];
-
-fn put(words: &mut Vec<u8>, bytes: &[u8]) -> Result<(), NoMemory> {
-    words.extend_from_slice(bytes)?;
-    Ok(())
+// A process with its discipline, and whether it was given a line.
+#[derive(Drop)]
+struct Reader<J: Opening> {
+    pass: Pass<J>,
+    tty: Tty,
+    found: bool,
 }
 
-// The words of one write of 681 reports of 6 bytes.
-fn reports(alloc: Global) -> Result<Vec<u8>, NoMemory> {
-    let mut words = Vec::new(alloc);
-    put(&mut words, b"write 0 ")?;
-    for _ in 0..681 {
-        put(&mut words, b"1b5b366e")?;
+// Whether the turn goes on after this stop: it does if nothing was typed.
+fn may_go_on(stop: Option<Stop>) -> bool {
+    match stop {
+        None => true,
+        Some(stop) => stop == Stop::Err(Errno::Again),
     }
-    Ok(words)
 }
 
-// Fills the queue of console 1 with them.
-fn fill(alloc: Global, world: &mut World) -> Result<(), NoMemory> {
-    let words = reports(alloc)?;
-    let _ = made(alloc, world, 1, words.as_slice())?;
-    Ok(())
+// Turns until a line is given.
+#[tactic(auto, using(crate::proofs::Ready::ready_turned))]
+fn read_line<J: Opening, R: Wait>(
+    seat: &Seat<J, R>,
+    reader: Reader<J>,
+) -> Result<Reader<J>, NoMemory>
+    requires { IsReady seat.now false reader.pass }
+    ensures { IfOk result (λ reader. reader.pass.hub ≡ seat.now) }
+{
+    let Reader {
+        mut pass,
+        mut tty,
+        ..
+    } = reader;
+    if make(seat, &mut pass, Event::OpenCon(1))? {
+        return Ok(Reader {
+            pass,
+            tty,
+            found: false,
+        });
+    }
+    for _ in 0..1_000_000 {
+        let turn = tty.turn(seat.rt, seat.alloc, seat.hub, &mut pass, 0)?;
+        let found = turn.given == Given::Line;
+        if found || !may_go_on(turn.stop) {
+            return Ok(Reader { pass, tty, found });
+        }
+        thread::yield_now();
+    }
+    Ok(Reader {
+        pass,
+        tty,
+        found: false,
+    })
 }
 
-// Console 1 comes to the front.
-const FRONT: &[Row] = &[
-    Call(1, "open 1", "num 0"),
-    Call(1, "write 0 1b5b31323b315d", "num 7"),
-];
+// Whether a line was given, the discipline, and the run.
+#[derive(Drop)]
+struct Outcome {
+    found: bool,
+    tty: Tty,
+    run: Run,
+}
 
-// Types a letter so many times, and requests one report more.
-fn type_and_report(
-    by: &impl Abort,
+// The keys in one thread, and the line in another.
+fn both<J: Opening + Send + Sync, R: Threads + Wait + Sync>(
+    seat: &Seat<J, R>,
+    keyboard: Pass<J>,
+    reader: Reader<J>,
+) -> Result<(Pass<J>, Reader<J>), NoMemory>
+    requires keyboard { IsReady seat.now false keyboard }
+    requires reader { IsReady seat.now false reader.pass }
+    ensures keyboard { IfOk result (λ both. both.0.hub ≡ seat.now) }
+    ensures reader { IfOk result (λ both. both.1.pass.hub ≡ seat.now) }
+{
+    let (keyboard, reader) = thread::join(
+        seat.rt,
+        || -> Result<Pass<J>, NoMemory>
+            requires { IsReady seat.now false keyboard }
+            ensures { IfOk result (λ pass. pass.hub ≡ seat.entry.now) }
+        { press(seat, keyboard) },
+        || -> Result<Reader<J>, NoMemory>
+            requires { IsReady seat.now false reader.pass }
+            ensures { IfOk result (λ reader. reader.pass.hub ≡ seat.entry.now) }
+        { read_line(seat, reader) },
+    );
+    let keyboard = keyboard?;
+    let reader = reader?;
+    Ok((keyboard, reader))
+}
+
+// The run, after both have ended.
+fn joined<J: Opening>(
+    hub: Hub<J>,
+    steward: Steward<J>,
+    keyboard: Pass<J>,
+    reader: Reader<J>,
+) -> Result<Outcome, Fail>
+    requires steward { steward.hub ≡ hub }
+    requires keyboard { keyboard.hub ≡ hub }
+    requires reader { reader.pass.hub ≡ hub }
+{
+    let mut steward = steward;
+    let Reader { pass, tty, found } = reader;
+    hub.join(&mut steward, keyboard);
+    hub.join(&mut steward, pass);
+    let run = closed(hub, steward)?;
+    Ok(Outcome { found, tty, run })
+}
+
+fn share<J: Opening + Send + Sync, R: Threads + Wait + Sync>(
+    rt: &R,
     alloc: Global,
-    world: &mut World,
-    letters: u32,
-) -> Result<(), Fail> {
-    for _ in 0..letters {
-        check_row(by, alloc, world, Keyed("scan 1e", 1))?;
+    world: World,
+    tty: Tty,
+) -> Result<Outcome, Fail>
+    requires start { world ≡ J.start }
+    requires limits { J.limits ≡ record { events = 65_536; bytes = 67_108_864 } }
+    requires free { (p : ℕ) → is_waiting world p ≡ false }
+{
+    let (hub, mut steward) = Hub::<J>::open(alloc, world, LIMITS)?;
+    let keyboard = hub.split(&mut steward, CallerNo::KEYBOARD);
+    let pass = hub.split(&mut steward, CallerNo::numbered(1));
+    let reader = Reader {
+        pass,
+        tty,
+        found: false,
+    };
+    let seat = Seat {
+        rt,
+        alloc,
+        hub: &hub,
+    };
+    let (keyboard, reader) = both(&seat, keyboard, reader)?;
+    joined(hub, steward, keyboard, reader)
+}
+
+fn typed<R: Threads + Wait + Sync>(rt: &R, alloc: Global) -> Result<Outcome, Fail> {
+    let tty = usual(alloc)?;
+    let world = started(alloc, SESSION)?;
+    share::<Brand, R>(rt, alloc, world, tty)
+}
+
+fn usual(alloc: Global) -> Result<Tty, Fail> {
+    let t = Termios::usual();
+    if !t.valid() {
+        return Err("no settings".into());
     }
-    Ok(check_row(by, alloc, world, Call(1, "write 0 1b5b366e", "num 4"))?)
+    Ok(Tty::start(alloc, t)?)
 }
-
-fn fill_and_check(
-    by: &impl Abort,
-    alloc: Global,
-    world: &mut World,
-    case: &Filled,
-) -> Result<(), Fail> {
-    let (letters, len, dropped) = *case;
-    check_all(by, alloc, world, FRONT)?;
-    fill(alloc, world)?;
-    type_and_report(by, alloc, world, letters)?;
-    Ok(check_row(by, alloc, world, Queued(1, len, dropped))?)
-}
-
-fn check_filled(by: &impl Abort, alloc: Global, case: &Filled) -> Result<(), Fail> {
-    let mut world = open(alloc, TYPED)?;
-    fill_and_check(by, alloc, &mut world, case)
-}
-
-// How many letters are typed into the filled queue, and how many bytes it holds and how many pieces it dropped after
-// one report more.
-type Filled = (u32, usize, u32);
-
-const FILLED: &[Filled] = &[(4, 4_096, 0), (5, 4_091, 1)];
 
 #[test]
-fn drops_what_does_not_fit(rt: HostRuntime) -> Result<(), Fail> {
-    for case in FILLED {
-        check_filled(&rt, rt.alloc(), case)?;
-    }
+fn a_line_is_read_by_turns(rt: HostRuntime) -> Result<(), Fail> {
+    let outcome = typed(&rt, rt.alloc())?;
+    assert!(rt; outcome.found, "a line was given");
+    assert!(rt;
+        outcome.tty.cooked().line() == b"a\n".as_slice(),
+        "the line"
+    );
+    assert!(rt; outcome.run.stop.is_none(), "there was room");
     Ok(())
 }

@@ -22,9 +22,7 @@ returns-clause-complete g c =
 
 pub returns-clause-displays : goal.returns-clause-displays
 returns-clause-displays g c =
-    tells_displays c.displays_are_lawful.ensures.acts c.displays_are_lawful.ensures.calls
-    c.displays_are_lawful.ensures.told c.displays_are_lawful.ensures.hops
-    c.refused_calls_change_nothing.ensures.refused serial_forms (map string_bytes c.args.words.now)
+    tells_displays serial_forms (map string_bytes c.args.words.now)
     (record {
       src = g.S.Source.stream c.args.src.now;
       out = g.O.Sink.stream c.args.out.now;

@@ -1,4 +1,0 @@
-use Rattle.hub_tests.proofs.tests.typing.typed.Given as goal
-
-abbrev pub ghosts-share : goal.ghosts-share
-ghosts-share g a = record { start = a.world; limits = record { events = 65536; bytes = 67108864 } }

@@ -1,4 +1,0 @@
-mod console;
-mod hub;
-mod lock;
-mod typing;
