@@ -1,5 +1,9 @@
+<<<<<<< HEAD
 //! The lines of the output: each process's calls, the display, and the rows of console 2.
 use itoa::Buffer;
+=======
+//! The lines of the output.
+>>>>>>> cd6614807d3669dce0ffa064b4a6b4bb53769223
 use std::alloc::Global;
 use vt_base::{Bytes, CallerNo, ConsoleNo, NoMemory};
 use vt_dump::add_rows;
@@ -10,43 +14,43 @@ use vt_world::World;
 /// The calls of each process in its own order, the display, and the rows of console 2.
 pub(crate) fn told(alloc: Global, run: &Run) -> Result<Bytes, NoMemory> {
     let mut lines = Bytes::new(alloc);
-    add_calls(alloc, run.log.entries(), 1, &mut lines)?;
-    add_calls(alloc, run.log.entries(), 2, &mut lines)?;
-    add_stop(alloc, run, &mut lines)?;
-    add_display(alloc, &run.world, &mut lines)?;
-    add_screen(alloc, &run.world, &mut lines)?;
+    add_calls(alloc, &mut lines, run.log.entries(), 1)?;
+    add_calls(alloc, &mut lines, run.log.entries(), 2)?;
+    add_stop(alloc, &mut lines, run)?;
+    add_display(alloc, &mut lines, &run.world)?;
+    add_screen(alloc, &mut lines, &run.world)?;
     Ok(lines)
 }
 
 fn add_calls(
     alloc: Global,
+    lines: &mut Bytes,
     entries: &[Entry],
     number: u16,
-    lines: &mut Bytes,
 ) -> Result<(), NoMemory> {
     for entry in entries {
         if entry.caller.get() == number {
-            add_call(alloc, entry, lines)?;
+            add_call(alloc, lines, entry)?;
         }
     }
     Ok(())
 }
 
 // Whether a call has to wait depends on the turns that the threads take. So a wait is one line, with how it ended.
-fn add_call(alloc: Global, entry: &Entry, lines: &mut Bytes) -> Result<(), NoMemory> {
+fn add_call(alloc: Global, lines: &mut Bytes, entry: &Entry) -> Result<(), NoMemory> {
     if !matches!(entry.event, Event::WaitEnd) {
-        add_words(alloc, entry, lines)?;
+        add_words(alloc, lines, entry)?;
     }
     if !matches!(entry.reply, Reply::Wait) {
-        add_answer(alloc, &entry.reply, lines)?;
+        add_answer(alloc, lines, &entry.reply)?;
     }
     Ok(())
 }
 
-fn add_words(alloc: Global, entry: &Entry, lines: &mut Bytes) -> Result<(), NoMemory> {
-    add(alloc, b"process ", lines)?;
-    add_number(alloc, u64::from(entry.caller.get()), lines)?;
-    add(alloc, words_of(&entry.event), lines)
+fn add_words(alloc: Global, lines: &mut Bytes, entry: &Entry) -> Result<(), NoMemory> {
+    lines.add(alloc, b"process ")?;
+    lines.add_decimal(alloc, u64::from(entry.caller.get()))?;
+    lines.add(alloc, words_of(&entry.event))
 }
 
 fn words_of(event: &Event) -> &[u8] {
@@ -64,48 +68,37 @@ fn words_of(event: &Event) -> &[u8] {
     }
 }
 
-fn add_answer(alloc: Global, reply: &Reply, lines: &mut Bytes) -> Result<(), NoMemory> {
+fn add_answer(alloc: Global, lines: &mut Bytes, reply: &Reply) -> Result<(), NoMemory> {
     match reply {
-        Reply::Done => add(alloc, b"ok\n", lines),
-        Reply::Num(n) => add_line(alloc, b"number ", u64::from(*n), lines),
-        Reply::Sigs(signals) => add_line(alloc, b"signals ", signals.bits(), lines),
-        Reply::Err(errno) => add_line(alloc, b"error ", u64::from(errno.number()), lines),
-        _ => add(alloc, b"something else\n", lines),
+        Reply::Done => lines.add(alloc, b"ok\n"),
+        Reply::Num(n) => add_line(alloc, lines, b"number ", u64::from(*n)),
+        Reply::Sigs(signals) => add_line(alloc, lines, b"signals ", signals.bits()),
+        Reply::Err(errno) => add_line(alloc, lines, b"error ", u64::from(errno.number())),
+        _ => lines.add(alloc, b"something else\n"),
     }
 }
 
 // If a call found no room, it and all later ones are missing.
-fn add_stop(alloc: Global, run: &Run, lines: &mut Bytes) -> Result<(), NoMemory> {
+fn add_stop(alloc: Global, lines: &mut Bytes, run: &Run) -> Result<(), NoMemory> {
     match run.stop {
-        Some(_) => add(alloc, b"the journal is full\n", lines),
+        Some(_) => lines.add(alloc, b"the journal is full\n"),
         None => Ok(()),
     }
 }
 
-fn add_display(alloc: Global, world: &World, lines: &mut Bytes) -> Result<(), NoMemory> {
-    add_line(alloc, b"display ", u64::from(world.display().get()), lines)
+fn add_display(alloc: Global, lines: &mut Bytes, world: &World) -> Result<(), NoMemory> {
+    add_line(alloc, lines, b"display ", u64::from(world.display().get()))
 }
 
-fn add_screen(alloc: Global, world: &World, lines: &mut Bytes) -> Result<(), NoMemory> {
+fn add_screen(alloc: Global, lines: &mut Bytes, world: &World) -> Result<(), NoMemory> {
     match world.screen(ConsoleNo::numbered(2)) {
         Some(screen) => add_rows(alloc, lines, screen.grid()),
-        None => add(alloc, b"no console 2\n", lines),
+        None => lines.add(alloc, b"no console 2\n"),
     }
 }
 
-fn add_line(alloc: Global, words: &[u8], n: u64, lines: &mut Bytes) -> Result<(), NoMemory> {
-    add(alloc, words, lines)?;
-    add_number(alloc, n, lines)?;
-    add(alloc, b"\n", lines)
-}
-
-fn add_number(alloc: Global, n: u64, lines: &mut Bytes) -> Result<(), NoMemory> {
-    let mut number = Buffer::new();
-    add(alloc, number.format(n).as_bytes(), lines)
-}
-
-fn add(alloc: Global, words: &[u8], lines: &mut Bytes) -> Result<(), NoMemory> {
-    lines.grow(alloc, words.len())?;
-    lines.append(words);
-    Ok(())
+fn add_line(alloc: Global, lines: &mut Bytes, words: &[u8], n: u64) -> Result<(), NoMemory> {
+    lines.add(alloc, words)?;
+    lines.add_decimal(alloc, n)?;
+    lines.add(alloc, b"\n")
 }

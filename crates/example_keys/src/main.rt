@@ -26,8 +26,8 @@ fn main(rt: HostRuntime) -> io::Result<()> {
 fn typed(alloc: Global, text: &[u8]) -> Result<Bytes, NoMemory> {
     let mut lines = Bytes::new(alloc);
     match compiled(alloc, text)? {
-        Keymap::Tables(tables) => add_typed(alloc, &tables, &mut lines)?,
-        Keymap::Refused(fault) => add_refusal(alloc, &fault, &mut lines)?,
+        Keymap::Tables(tables) => add_typed(alloc, &mut lines, &tables)?,
+        Keymap::Refused(fault) => add_refusal(alloc, &mut lines, &fault)?,
     }
     Ok(lines)
 }

@@ -17,8 +17,8 @@ const SCANS: [u8; 24] = [
 /// console has its own key state, and the modes of its screen.
 pub(crate) fn add_typed(
     alloc: Global,
-    tables: &KeyTables,
     lines: &mut Bytes,
+    tables: &KeyTables,
 ) -> Result<(), NoMemory> {
     let mut scanner = Scanner::start();
     let mut keyboard = Keyboard::start();
@@ -28,7 +28,7 @@ pub(crate) fn add_typed(
             Some(event) => keyboard.key(0, event, tables, &mut state, START_MODES),
             None => KeyOut::Nothing,
         };
-        add_line(alloc, scan, &out, lines)?;
+        add_line(alloc, lines, scan, &out)?;
     }
     Ok(())
 }

@@ -1,7 +1,6 @@
 //! Side effects of a text, and rows of the screen, as lines.
 ghost use Rattle.std.specs.Prelude.{◌<◌};
 
-use itoa::Buffer;
 use std::alloc::Global;
 use vt_base::{Bytes, NoMemory};
 use vt_dump::text_row;
@@ -31,9 +30,9 @@ impl Teller {
         requires { y < grid.now.rows }
     {
         let row = text_row(self.alloc, grid, y)?;
-        add_number(self.alloc, b"row ", y, &mut self.lines)?;
-        add(self.alloc, b" ", &mut self.lines)?;
-        add(self.alloc, row.as_slice(), &mut self.lines)
+        add_number(self.alloc, &mut self.lines, b"row ", y)?;
+        self.lines.add(self.alloc, b" ")?;
+        self.lines.add(self.alloc, row.as_slice())
     }
 
     /// The lines, if memory was found for all of them.
@@ -50,35 +49,28 @@ impl Listener for Teller {
 
     /// Adds a line.
     fn hear(&mut self, out: Out) {
-        if add_said(self.alloc, &out, &mut self.lines).is_err() {
+        if add_said(self.alloc, &mut self.lines, &out).is_err() {
             self.is_short = true;
         }
     }
 }
 
-fn add_said(alloc: Global, out: &Out, lines: &mut Bytes) -> Result<(), NoMemory> {
+fn add_said(alloc: Global, lines: &mut Bytes, out: &Out) -> Result<(), NoMemory> {
     match out {
         // The bytes begin with ESC, which is left out here.
         Out::Report(text) => {
-            add(alloc, b"report ESC", lines)?;
-            add(alloc, text.as_slice().get(1..).unwrap_or(b""), lines)?;
+            lines.add(alloc, b"report ESC")?;
+            lines.add(alloc, text.as_slice().get(1..).unwrap_or(b""))?;
         }
-        Out::SwitchTo(n) => add_number(alloc, b"console ", *n, lines)?,
-        Out::SwitchLast => add(alloc, b"console before", lines)?,
-        Out::Lights(lights) => add_number(alloc, b"lights ", *lights, lines)?,
-        Out::Bell => add(alloc, b"bell", lines)?,
+        Out::SwitchTo(n) => add_number(alloc, lines, b"console ", *n)?,
+        Out::SwitchLast => lines.add(alloc, b"console before")?,
+        Out::Lights(lights) => add_number(alloc, lines, b"lights ", *lights)?,
+        Out::Bell => lines.add(alloc, b"bell")?,
     }
-    add(alloc, b"\n", lines)
+    lines.add(alloc, b"\n")
 }
 
-fn add_number(alloc: Global, words: &[u8], n: u8, lines: &mut Bytes) -> Result<(), NoMemory> {
-    let mut number = Buffer::new();
-    add(alloc, words, lines)?;
-    add(alloc, number.format(n).as_bytes(), lines)
-}
-
-fn add(alloc: Global, words: &[u8], lines: &mut Bytes) -> Result<(), NoMemory> {
-    lines.grow(alloc, words.len())?;
-    lines.append(words);
-    Ok(())
+fn add_number(alloc: Global, lines: &mut Bytes, words: &[u8], n: u8) -> Result<(), NoMemory> {
+    lines.add(alloc, words)?;
+    lines.add_decimal(alloc, u64::from(n))
 }

@@ -1,7 +1,7 @@
 //! `ask_for_each`: the calls of the server and of the one who asks, and their lines.
 use crate::calling::{asker, server};
 use crate::opening::opened;
-use crate::telling::{add, add_line};
+use crate::telling::add_line;
 use std::alloc::Global;
 use vt_base::{Bytes, NoMemory, SigSet, Signal};
 use vt_events::{Event, Reply};
@@ -23,8 +23,8 @@ pub(crate) fn ask_for_each(alloc: Global, text: &[u8]) -> Result<Bytes, NoMemory
 fn ask_for(alloc: Global, world: &mut World, digit: u8, lines: &mut Bytes) -> Result<(), NoMemory> {
     let event = Event::Activate(0, u16::from(digit.saturating_sub(b'0')));
     let reply = world.call(alloc, asker(), &event)?;
-    add(alloc, b"2 asks for ", lines)?;
-    add_line(alloc, &[digit], &reply, world.display(), lines)
+    lines.add(alloc, b"2 asks for ")?;
+    add_line(alloc, lines, &[digit], &reply, world.display())
 }
 
 // Process 1 takes its signals, and does what each asks of it.
@@ -54,5 +54,5 @@ fn release(
     lines: &mut Bytes,
 ) -> Result<(), NoMemory> {
     let reply = world.call(alloc, server(), &Event::RelDisp(0, how))?;
-    add_line(alloc, words, &reply, world.display(), lines)
+    add_line(alloc, lines, words, &reply, world.display())
 }

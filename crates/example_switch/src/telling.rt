@@ -1,5 +1,9 @@
+<<<<<<< HEAD
 //! The lines of the output: each call with its answer.
 use itoa::Buffer;
+=======
+//! The lines of the output.
+>>>>>>> cd6614807d3669dce0ffa064b4a6b4bb53769223
 use std::alloc::Global;
 use vt_base::{Bytes, ConsoleNo, NoMemory};
 use vt_events::Reply;
@@ -7,37 +11,25 @@ use vt_events::Reply;
 /// Adds a line: the call in words, its answer, and the console that has the display after it.
 pub(crate) fn add_line(
     alloc: Global,
+    lines: &mut Bytes,
     words: &[u8],
     reply: &Reply,
     front: ConsoleNo,
-    lines: &mut Bytes,
 ) -> Result<(), NoMemory> {
-    add(alloc, words, lines)?;
-    add_answer(alloc, reply, lines)?;
-    add(alloc, b", display ", lines)?;
-    add_number(alloc, front.get(), lines)?;
-    add(alloc, b"\n", lines)
+    lines.add(alloc, words)?;
+    add_answer(alloc, lines, reply)?;
+    lines.add(alloc, b", display ")?;
+    lines.add_decimal(alloc, u64::from(front.get()))?;
+    lines.add(alloc, b"\n")
 }
 
-fn add_answer(alloc: Global, reply: &Reply, lines: &mut Bytes) -> Result<(), NoMemory> {
+fn add_answer(alloc: Global, lines: &mut Bytes, reply: &Reply) -> Result<(), NoMemory> {
     match reply {
-        Reply::Done => add(alloc, b": ok", lines),
+        Reply::Done => lines.add(alloc, b": ok"),
         Reply::Err(errno) => {
-            add(alloc, b": refused ", lines)?;
-            add_number(alloc, errno.number(), lines)
+            lines.add(alloc, b": refused ")?;
+            lines.add_decimal(alloc, u64::from(errno.number()))
         }
-        _ => add(alloc, b": something else", lines),
+        _ => lines.add(alloc, b": something else"),
     }
-}
-
-fn add_number(alloc: Global, n: u16, lines: &mut Bytes) -> Result<(), NoMemory> {
-    let mut number = Buffer::new();
-    add(alloc, number.format(n).as_bytes(), lines)
-}
-
-/// Adds the words.
-pub(crate) fn add(alloc: Global, words: &[u8], lines: &mut Bytes) -> Result<(), NoMemory> {
-    lines.grow(alloc, words.len())?;
-    lines.append(words);
-    Ok(())
 }
