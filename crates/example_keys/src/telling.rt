@@ -1,9 +1,4 @@
-<<<<<<< HEAD
 //! The lines of the output: what each scan byte sends, or why the keymap is refused.
-use itoa::Buffer;
-=======
-//! The lines of the output.
->>>>>>> cd6614807d3669dce0ffa064b4a6b4bb53769223
 use key_machine::KeyOut;
 use key_text::KeyFault;
 use std::alloc::Global;

@@ -1,9 +1,4 @@
-<<<<<<< HEAD
 //! The lines of the output: each call with its answer.
-use itoa::Buffer;
-=======
-//! The lines of the output.
->>>>>>> cd6614807d3669dce0ffa064b4a6b4bb53769223
 use std::alloc::Global;
 use vt_base::{Bytes, ConsoleNo, NoMemory};
 use vt_events::Reply;
