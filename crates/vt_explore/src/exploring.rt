@@ -9,11 +9,10 @@ use crate::opened::Opened;
 use crate::pool::Pool;
 use crate::search::Search;
 use crate::{End, Outcome, Progress, Question};
-use session_order::{meant_laws, order_laws, session_laws};
+use session_order::session_laws;
 use session_text::Session;
 use std::alloc::Global;
 use vt_base::NoMemory;
-use vt_world::legal_grows;
 
 /// Goes through the orders of the session's calls, those with fewer turns first, until it has for each question
 /// an order in which a call is made that the question asks for, or knows more than `limit` orders that lead to
@@ -37,9 +36,6 @@ pub fn explore<Q: Question, P: Progress>(
         IfAnswered outcome.end ((i : ℕ) → slice_get outcome.found i ≡ Some None → ⊥)) }
 {
     session_laws(s);
-    order_laws();
-    meant_laws();
-    legal_grows();
     let mut pool = Pool::start(alloc, s)?;
     let mut findings = Findings::none(alloc);
     let mut search = Search::start(alloc, s, &pool)?;

@@ -9,12 +9,12 @@ ghost use Rattle.vt_events.specs.declared.entry.Entry.{Entry};
 ghost use Rattle.vt_events.specs.declared.event.Event.{Event};
 ghost use Rattle.vt_world.specs.TableLaws.{sets_tables};
 
-use session_order::{SessionProgress, meant_laws, session_laws, start_of};
+use session_order::{SessionProgress, session_laws, start_of};
 use session_text::{Program, Session, program_of};
 use std::alloc::Global;
 use vt_base::{CallerNo, NoMemory};
 use vt_events::{Event, Reply};
-use vt_world::{World, legal_grows, tables_stay};
+use vt_world::World;
 
 /// A machine, and how far each caller of its session is.
 #[derive(Drop)]
@@ -128,9 +128,6 @@ impl Position {
             → call_now o h p ≡ Some event.now → IsAfter o h self.old
             → HasMade o h p event.now reply self.new) }
     {
-        legal_grows();
-        meant_laws();
-        tables_stay();
         let reply = self.world.call(alloc, p, event)?;
         self.standing.took(p, program, &reply);
         self.standing.forget(p, program);

@@ -1,20 +1,22 @@
 use Rattle.std.proofs.Common.{length, map, sym, subst}
+use Rattle.session_order.proofs.Stated.{meant_laws-replay, order_laws-legal, order_laws-turns}
 use Rattle.vt_explore.proofs.Counts.{limit_passed}
 use Rattle.vt_explore.proofs.Finding.{if_answered, if_whole, none_left}
 use Rattle.vt_explore.proofs.Journals.{found_are_right, never_are_right}
 use Rattle.vt_explore.specs.Questions.{HasStates}
+use Rattle.vt_world.proofs.Stated.{legal_grows-replay}
 use Rattle.vt_explore.proofs.exploring.explore.Goals as goal
 
 pub returns-clause-found : goal.returns-clause-found
 returns-clause-found g c =
-    found_are_right c.order_laws.ensures.legal c.order_laws.ensures.turns c.meant_laws.ensures.replay c.legal_grows.ensures.replay
+    found_are_right order_laws-legal order_laws-turns meant_laws-replay legal_grows-replay
     (map g.Q.Question.wants c.args.questions.now) c.args.s.now c.go_through.new.findings (length c.args.questions.now)
     c.in_ok-found.found c.session_laws.ensures.setup c.in_ok-end.ensures.first c.in_ok-found.ensures
 
 pub returns-clause-never : goal.returns-clause-never
 returns-clause-never g c =
     if_whole c.in_ok-end.end
-    (λ none. never_are_right c.order_laws.ensures.turns c.meant_laws.ensures.replay c.legal_grows.ensures.replay
+    (λ none. never_are_right order_laws-turns meant_laws-replay legal_grows-replay
     (map g.Q.Question.wants c.args.questions.now) c.args.s.now c.go_through.new.findings (length c.args.questions.now)
     c.in_ok-found.found c.session_laws.ensures.setup none c.in_ok-found.ensures)
     c.in_ok-end.ensures.none
