@@ -8,7 +8,6 @@ ghost use Rattle.vt_check.specs.declared.verdict.Verdict.TheVariants as verdict;
 ghost use Rattle.vt_world.specs.History.{replay};
 
 use crate::judge::Judge;
-use crate::laws::one_verdict;
 use crate::witness::Nobody;
 use crate::{Verdict, Witness};
 use session_order::session_laws;
@@ -27,7 +26,6 @@ pub fn check(alloc: Global, s: &Session, j: &Journal) -> Result<Verdict, NoMemor
     ensures right { IfOk result (λ v. v ≡ verdict.Legal → IsRightHistory s.now
         (replay (start_of s.now) j.now.entries) j.now.entries j.now.tail) }
 {
-    one_verdict();
     let mut nobody = Nobody;
     let verdict = watch(alloc, s, j, &mut nobody)?;
     Ok(verdict)

@@ -16,7 +16,7 @@ use std::alloc::Global;
 use vt_base::{Bytes, ConsoleNo, NoMemory};
 use vt_check::Witness;
 use vt_events::Entry;
-use vt_world::{World, legal_grows, terminals_stay};
+use vt_world::World;
 
 /// The lines so far, and the machine before the entry that comes next.
 #[derive(Drop)]
@@ -65,7 +65,6 @@ impl<F: Listener> Witness for Reviewer<'_, F> {
         entry: &Entry,
         after: &World,
     ) -> Result<(), NoMemory> {
-        legal_grows();
         let change = Change {
             place,
             before: &self.behind,
@@ -88,7 +87,6 @@ fn tell_entry<F: Listener>(
     ensures { OnOk result (text.new.bytes
         ≡ text.old.bytes ++ entry_lines ears.now change.entry.place change.entry.before.now change.entry.after.now) }
 {
-    terminals_stay();
     match touched(change.before, change.entry.caller, &change.entry.event) {
         Some(console) => tell_touched(alloc, text, ears, change, console),
         None => tell_untouched(alloc, text, ears, change),

@@ -12,7 +12,7 @@ use session_order::start_of;
 use session_text::Session;
 use std::alloc::Global;
 use vt_base::NoMemory;
-use vt_check::{Verdict, one_verdict, watch};
+use vt_check::{Verdict, watch};
 use vt_journal::Journal;
 
 /// The lines of these ears over the journal if it is legal, or its verdict. Each ear is asked once for each
@@ -31,7 +31,6 @@ pub fn review<F: Listener>(
         ↔ IsRightJournal (setup_of s.now) j.now.entries j.now.tail) }
     ensures tells { IfOk result (TellsHistory s.now j.now ears.now) }
 {
-    one_verdict();
     let world = start_of(alloc, s)?;
     let mut reviewer = Reviewer::new(alloc, world, ears);
     let verdict = watch(alloc, s, j, &mut reviewer)?;
