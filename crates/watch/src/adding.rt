@@ -1,5 +1,5 @@
 //! Texts, made of pieces.
-ghost use Rattle.std.specs.Prelude.{◌≡◌, ◌++◌, decimal, drop, IfOk, OnOk};
+ghost use Rattle.std.specs.Prelude.{◌≡◌, ◌++◌, drop, IfOk, OnOk};
 ghost use Rattle.std.specs.List.{flat_map};
 ghost use Rattle.watch.specs.Words.{by_form, list_text, piece_text};
 
@@ -39,27 +39,14 @@ fn add_piece(alloc: Global, text: &mut Bytes, form: Form, piece: &Piece) -> Resu
     ensures { OnOk result (text.new.bytes ≡ text.old.bytes ++ piece_text form piece.now) }
 {
     match piece {
-        Piece::Text(bytes) => add(alloc, text, bytes),
+        Piece::Text(bytes) => text.add(alloc, bytes),
         Piece::ByForm(in_lines, in_json) => add_by_form(alloc, text, form, in_lines, in_json),
         Piece::List(elements) => add_list(alloc, text, form, elements),
         Piece::Caller(caller) => vt_journal::add_caller(alloc, text, *caller, VERSION),
-        Piece::Console(console) => add_number(alloc, text, u64::from(console.get())),
-        Piece::Signal(signal) => add_number(alloc, text, u64::from(signal.get())),
-        Piece::Number(n) => add_number(alloc, text, u64::from(*n)),
+        Piece::Console(console) => text.add_decimal(alloc, u64::from(console.get())),
+        Piece::Signal(signal) => text.add_decimal(alloc, u64::from(signal.get())),
+        Piece::Number(n) => text.add_decimal(alloc, u64::from(*n)),
     }
-}
-
-/// Adds the bytes.
-pub(crate) fn add(alloc: Global, text: &mut Bytes, bytes: &[u8]) -> Result<(), NoMemory>
-    ensures { OnOk result (text.new.bytes ≡ text.old.bytes ++ bytes.now) }
-{
-    vt_journal::add(alloc, text, bytes)
-}
-
-fn add_number(alloc: Global, text: &mut Bytes, n: u64) -> Result<(), NoMemory>
-    ensures { OnOk result (text.new.bytes ≡ text.old.bytes ++ decimal n) }
-{
-    vt_journal::add_number(alloc, text, n)
 }
 
 // Adds the list whose elements these are, each with a separator of one byte before it.
@@ -67,7 +54,7 @@ fn add_list(alloc: Global, text: &mut Bytes, form: Form, elements: &[u8]) -> Res
     ensures { OnOk result (text.new.bytes ≡ text.old.bytes ++ list_text form elements.now) }
 {
     match elements.split_first() {
-        Some((_, list)) => add(alloc, text, list),
+        Some((_, list)) => text.add(alloc, list),
         None => add_by_form(alloc, text, form, b" none", b""),
     }
 }
@@ -82,7 +69,7 @@ fn add_by_form(
     ensures { OnOk result (text.new.bytes ≡ text.old.bytes ++ by_form form in_lines.now in_json.now) }
 {
     match form {
-        Form::Lines => add(alloc, text, in_lines),
-        Form::Json => add(alloc, text, in_json),
+        Form::Lines => text.add(alloc, in_lines),
+        Form::Json => text.add(alloc, in_json),
     }
 }

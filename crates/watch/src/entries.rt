@@ -7,13 +7,13 @@ ghost use Rattle.vt_journal.specs.Journal.{entry_words, line_text};
 ghost use Rattle.vt_journal.specs.Text.{blank_before_each};
 ghost use Rattle.vt_journal.specs.Words.{event_words, reply_words};
 
-use crate::adding::{VERSION, add, add_pieces, text_of};
+use crate::adding::{VERSION, add_pieces, text_of};
 use crate::form::Form;
 use crate::piece::Piece;
 use std::alloc::Global;
 use vt_base::{Bytes, Errno, NoMemory};
 use vt_events::{Entry, Event, Reply};
-use vt_journal::{add_caller, add_event, add_hex, add_next, add_reply};
+use vt_journal::{add_caller, add_event, add_next, add_reply};
 
 /// Adds the lines of an entry with these facts, and with this state before it and after it.
 #[tactic(auto, unfolding(crate::specs::Entries::entry_lines))]
@@ -40,9 +40,9 @@ fn add_entry_line(alloc: Global, text: &mut Bytes, entry: &Entry) -> Result<(), 
     add_caller(alloc, text, entry.caller, VERSION)?;
     add_next(alloc, text, u64::from(entry.seq))?;
     add_event(alloc, text, &entry.event)?;
-    add(alloc, text, b" =")?;
+    text.add(alloc, b" =")?;
     add_reply(alloc, text, &entry.reply)?;
-    add(alloc, text, b"\n")?;
+    text.add(alloc, b"\n")?;
     Ok(())
 }
 
@@ -254,18 +254,17 @@ fn add_escaped(alloc: Global, text: &mut Bytes, b: u8) -> Result<(), NoMemory>
     ensures { OnOk result (text.new.bytes ≡ text.old.bytes ++ escaped_byte b) }
 {
     if b == b'"' {
-        return add(alloc, text, b"\\\"");
+        return text.add(alloc, b"\\\"");
     }
     if b == b'\\' {
-        return add(alloc, text, b"\\\\");
+        return text.add(alloc, b"\\\\");
     }
     if b == b'\n' {
-        return add(alloc, text, b"\\n");
+        return text.add(alloc, b"\\n");
     }
     if b < 0x20 {
-        add(alloc, text, b"\\u00")?;
-        add_hex(alloc, text, &[b])?;
-        return Ok(());
+        text.add(alloc, b"\\u00")?;
+        return text.add_hex(alloc, &[b]);
     }
-    add(alloc, text, &[b])
+    text.add(alloc, &[b])
 }

@@ -6,7 +6,6 @@ ghost use Rattle.session_run.specs.Final.{final_text};
 ghost use Rattle.session_order.specs.Sessions.{setup_of, start_of};
 ghost use Rattle.vt_check.specs.Verdicts.{Judges};
 
-use crate::adding::add;
 use crate::entries::add_end;
 use crate::following::Following;
 use crate::form::Form;
@@ -71,7 +70,7 @@ fn head_text(alloc: Global, form: Form, world: &World) -> Result<Bytes, NoMemory
     match form {
         Form::Lines => {
             let mut text = state_text(alloc, Form::Lines, world, 0)?;
-            add(alloc, &mut text, b"\n")?;
+            text.add(alloc, b"\n")?;
             Ok(text)
         }
         Form::Json => Ok(Bytes::new(alloc)),

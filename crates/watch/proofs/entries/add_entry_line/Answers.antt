@@ -9,6 +9,6 @@ returns c =
     let entry = c.args.entry.now in
     entry_line (caller_text entry.caller) (decimal entry.seq) (codes "=") (event_words entry.event)
     (reply_words entry.reply) c.args.text.now.bytes c.add_caller.new.text.bytes c.add_next.new.text.bytes
-    c.add_event.new.text.bytes c.add.new.text.bytes c.add_reply.new.text.bytes c.add-2.new.text.bytes
+    c.add_event.new.text.bytes c.add.new.self.bytes c.add_reply.new.text.bytes c.add-2.new.self.bytes
     c.in_ok-add_caller.ensures.adds (grind arith) c.in_ok-add_event.ensures.adds c.in_ok-add.ensures
     c.in_ok-add_reply.ensures.adds c.in_ok-add-2.ensures
