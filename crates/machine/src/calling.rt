@@ -2,7 +2,7 @@
 ghost use Rattle.std.specs.Prelude.{◌≡◌, ◌≤◌, ◌↔◌, Err, OnOk, OnErr, length};
 ghost use Rattle.machine.specs.MachineState.{HasCalled, greatest_number, made_by};
 ghost use Rattle.vt_events.specs.Charge.{charge_of};
-ghost use Rattle.vt_journal.specs.Log.{HasRoom};
+ghost use Rattle.vt_journal.specs.Room.{HasRoom};
 
 use crate::call_error::CallError;
 use crate::machine::Machine;

@@ -10,7 +10,7 @@ use Rattle.vt_events.specs.Charge.{charge_of, greatest_reply, text_of_reply}
 use Rattle.vt_events.specs.Kinds.{blank, name_of, takes}
 use Rattle.vt_events.specs.declared.event.Event.{Event}
 use Rattle.vt_events.specs.declared.kind.Kind.{Kind}
-use Rattle.vt_journal.specs.Log.{HasRoom}
+use Rattle.vt_journal.specs.Room.{HasRoom}
 
 -- a call of this kind may hold that many bytes: a scan one, and a kind without bytes none
 abbrev pub may_hold : Kind → ℕ → Bool

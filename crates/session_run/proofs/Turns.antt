@@ -1,13 +1,11 @@
 -- A turn of a play: its call is entered, finds no room, or isn't there.
-use Rattle.std.proofs.Common.{◌≡◌, ℕ, ◌+◌, Bool, true, false, true≢false, cond, arith, List, [], ◌∷◌, ◌++◌, filter, length, Option, Some, None, refl, sym, ap, ◌∙◌, subst}
-use Rattle.std.proofs.lemmas.Bool.{and_from, and_parts, false_from_ne_true, le-leb, leb-true, lt-ltb, ltb-true}
+use Rattle.std.proofs.Common.{◌≡◌, ℕ, ◌+◌, Bool, true, false, true≢false, cond, List, [], ◌∷◌, ◌++◌, filter, length, Option, Some, None, refl, sym, ap, ◌∙◌, subst}
 use Rattle.std.proofs.lemmas.List.{length-map}
 use Rattle.std.proofs.lemmas.List.Folds.{fold-map}
 use Rattle.std.specs.List.{range_with_len, sum_by}
-use Rattle.std.specs.Prelude.{is_some, nat_le, nat_lt, if◌then◌else◌}
+use Rattle.std.specs.Prelude.{◌&&◌, is_some, nat_le, nat_lt, if◌then◌else◌}
 use Rattle.session_order.specs.Calls.{calls_by, next_by, next_of}
 use Rattle.session_order.specs.Ends.{Setup}
-use Rattle.vt_journal.specs.Room.{full_at, has_room}
 use Rattle.session_order.specs.Follows.{is_waiting}
 use Rattle.session_order.specs.Serial.{Played, call_now, calls, entry_at, round, turn, turns}
 use Rattle.session_run.specs.Callers.{callers_in, has_program}
@@ -20,9 +18,9 @@ use Rattle.vt_events.specs.Plain.{plain_entry}
 use Rattle.vt_events.specs.declared.entry.Entry.{Entry}
 use Rattle.vt_events.specs.declared.event.Event.{Event}
 use Rattle.vt_events.proofs.Meant.{charge-meant}
-use Rattle.vt_journal.specs.Log.{HasRoom, charge_of_all}
+use Rattle.vt_journal.specs.Log.{charge_of_all}
+use Rattle.vt_journal.specs.Room.{HasRoom, full_at, has_room}
 use Rattle.vt_journal.specs.declared.full.Full.{Full}
-use Rattle.vt_journal.specs.declared.limits.Limits.{Limits}
 use Rattle.vt_procs.specs.Callers.{caller_at}
 use Rattle.vt_procs.specs.Tickets.{is_open}
 use Rattle.vt_world.specs.History.{replay}
@@ -95,27 +93,11 @@ charges o t view at =
     ∙ (λ i. sum_by (λ (x : Entry). charge-meant x.event i) view.log.entries))
     ∙ ap charge_of_all at.history
 
--- room in the log is room in the play
-room_is : (o : Setup) (t : Played) (view : Player) (charge : ℕ) → IsAt o t view
-    → HasRoom view.log charge → has_room o.limits t.history charge ≡ true
-room_is o t view charge at room =
-    let events : view.log.limits.events ≡ o.limits.events = ap (λ (l : Limits). l.events) at.limits in
-    let bytes : view.log.limits.bytes ≡ o.limits.bytes = ap (λ (l : Limits). l.bytes) at.limits in
-    and_from (nat_lt (length t.history) o.limits.events) (nat_le (charge_of_all t.history + charge) o.limits.bytes)
-    (lt-ltb (length t.history) o.limits.events (omega (arith, room.entries, lengths o t view at, events)))
-    (le-leb (charge_of_all t.history + charge) o.limits.bytes (omega (arith, room.bytes, charges o t view at, bytes)))
-
-room_from : (o : Setup) (t : Played) (view : Player) (charge : ℕ) → IsAt o t view
-    → has_room o.limits t.history charge ≡ true → HasRoom view.log charge
-room_from o t view charge at is =
-    let events : view.log.limits.events ≡ o.limits.events = ap (λ (l : Limits). l.events) at.limits in
-    let bytes : view.log.limits.bytes ≡ o.limits.bytes = ap (λ (l : Limits). l.bytes) at.limits in
-    let parts : (nat_lt (length t.history) o.limits.events ≡ true) × (nat_le (charge_of_all t.history + charge) o.limits.bytes ≡ true) =
-    and_parts (nat_lt (length t.history) o.limits.events) (nat_le (charge_of_all t.history + charge) o.limits.bytes) is in
-    record {
-      entries = omega (arith, ltb-true (length t.history) o.limits.events parts.0, lengths o t view at, events);
-      bytes = omega (arith, leb-true (charge_of_all t.history + charge) o.limits.bytes parts.1, charges o t view at, bytes);
-    }
+-- the log has room exactly if the play has
+room_same : (o : Setup) (t : Played) (view : Player) (charge : ℕ) → IsAt o t view
+    → has_room view.log.limits view.log.entries charge ≡ has_room o.limits t.history charge
+room_same o t view charge at = λ i.
+    nat_lt (lengths o t view at i) (at.limits i).events && nat_le (charges o t view at i + charge) (at.limits i).bytes
 
 -- the turn of p, which makes this call
 pub turn-calls : (o : Setup) (t : Played) (p : ℕ) (now : Option Event) → t.stop ≡ None
@@ -142,14 +124,14 @@ pub turn_enters : (o : Setup) (t : Played) (p : ℕ) (e : Event) (before view : 
 turn_enters o t p e before view room at going now entered =
     let enters : Played = record { history = t.history ++ entry_at o.start t.history p e ∷ []; stop = None } in
     let full : Played = record { history = t.history; stop = Some (full_at t.history (charge_of e)) } in
-    let test : has_room o.limits t.history (charge_of e) ≡ true = room_is o t before (charge_of e) at room in
+    let test : has_room o.limits t.history (charge_of e) ≡ true = sym (room_same o t before (charge_of e) at) ∙ room in
     let same : turn o p t ≡ enters =
     turn-calls o t p (Some e) going now ∙ ap (λ b. if b then enters else full) test in
     subst (λ x. IsAt o x view) (sym same) entered
 
 -- if there is none, the play stops
 pub turn_fills : (o : Setup) (t : Played) (p : ℕ) (e : Event) (before : Player) (full : Full)
-    → (HasRoom before.log (charge_of e) → ⊥) → IsAt o t before → t.stop ≡ None
+    → has_room before.log.limits before.log.entries (charge_of e) ≡ false → IsAt o t before → t.stop ≡ None
     → call_now o t.history p ≡ Some e
     → full ≡ full_at before.log.entries (charge_of e)
     → IsAt o (turn o p t) (record before { stop = Some full })
@@ -157,7 +139,7 @@ turn_fills o t p e before full none at going now is =
     let enters : Played = record { history = t.history ++ entry_at o.start t.history p e ∷ []; stop = None } in
     let stops : Played = record { history = t.history; stop = Some (full_at t.history (charge_of e)) } in
     let test : has_room o.limits t.history (charge_of e) ≡ false =
-    false_from_ne_true (has_room o.limits t.history (charge_of e)) (λ room. none (room_from o t before (charge_of e) at room)) in
+    sym (room_same o t before (charge_of e) at) ∙ none in
     let same : turn o p t ≡ stops =
     turn-calls o t p (Some e) going now ∙ ap (λ b. if b then enters else stops) test in
     let full_is : full ≡ full_at t.history (charge_of e) =

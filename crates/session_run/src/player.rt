@@ -6,7 +6,7 @@ ghost use Rattle.session_run.specs.Playing.{IsAt, IsEnd};
 ghost use Rattle.session_run.specs.Runs.{IsRightRun, run_result};
 ghost use Rattle.session_text.specs.Programs.{program_of};
 ghost use Rattle.vt_events.specs.Charge.{charge_of};
-ghost use Rattle.vt_journal.specs.Log.{HasRoom};
+ghost use Rattle.vt_journal.specs.Room.{HasRoom};
 
 use session_order::{SessionProgress, session_laws, start_of};
 use session_text::{Program, Session};
@@ -57,16 +57,11 @@ impl Player {
             → IsAt o t self.old → IsAt o (turn o p t) self.new) }
     {
         let charge = charge(&event);
-        if self.log.room(charge) {
-            self.enter(alloc, program, p, event, charge)?;
+        if let Some(full) = self.log.stop(charge) {
+            self.stop = Some(full);
             return Ok(());
         }
-        self.stop = Some(Full {
-            events: self.log.entries().len() as u32,
-            bytes: self.log.bytes(),
-            charge,
-        });
-        Ok(())
+        self.enter(alloc, program, p, event, charge)
     }
 
     /// The run of the session that was played to its end.

@@ -2,7 +2,7 @@ ghost use Rattle.std.specs.Prelude.{◌≡◌, ◌+◌, ◌*◌, ℕ, [], IfOk, 
 ghost use Rattle.vt_events.specs.Charge.{charge_of};
 ghost use Rattle.vt_hub.specs.Histories.{made_by};
 ghost use Rattle.vt_hub.specs.Shared.{ComesTo, IsSound};
-ghost use Rattle.vt_journal.specs.Log.{HasRoom};
+ghost use Rattle.vt_journal.specs.Room.{HasRoom};
 ghost use Rattle.vt_world.specs.Spare.{Fits};
 ghost use Rattle.vt_world.specs.State.{is_waiting};
 
@@ -98,12 +98,7 @@ impl<J: Opening> Shared<J> {
             return Look::Waits;
         }
         let charge = charge(event);
-        if !state.log.room(charge) {
-            let full = Full {
-                events: state.log.entries().len() as u32,
-                bytes: state.log.bytes(),
-                charge,
-            };
+        if let Some(full) = state.log.stop(charge) {
             self.state.stop = Some(Seal {
                 by: u32::from(caller.get()),
                 what: full,

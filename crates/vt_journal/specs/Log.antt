@@ -1,5 +1,5 @@
 -- A log: entries within limits. This project's own.
-use Rattle.std.specs.Prelude.{◌≡◌, ℕ, ◌+◌, ◌<◌, ◌≤◌, List, length}
+use Rattle.std.specs.Prelude.{◌≡◌, ℕ, ◌≤◌, List, length}
 use Rattle.std.specs.List.{sum_by}
 use Rattle.vt_events.specs.Charge.{charge_of}
 use Rattle.vt_events.specs.declared.entry.Entry.{Entry}
@@ -13,11 +13,6 @@ pub record Logged : Type 0 where
 -- the sum of the charges of entries
 abbrev pub charge_of_all : List Entry → ℕ
 charge_of_all entries = sum_by (λ entry. charge_of entry.event) entries
-
--- one more entry of that charge is within the limits
-pub record HasRoom (log : Logged) (charge : ℕ) : Type 0 where
-  pub entries : length log.entries < log.limits.events
-  pub bytes : charge_of_all log.entries + charge ≤ log.limits.bytes
 
 -- a log's entries are within its limits, for which there is room, and the sum of their charges is kept
 pub record IsLog (log : Logged) (capacity kept : ℕ) : Type 0 where

@@ -1,8 +1,9 @@
 ghost use Rattle.std.specs.Prelude.{◌≡◌, ◌<◌, ◌≤◌, [], ◌∷◌, ◌++◌, length, IsTrue, ◌↔◌, IfOk};
 ghost use Rattle.vt_events.specs.Charge.{charge_of};
-ghost use Rattle.vt_journal.specs.Log.{HasRoom, charge_of_all};
+ghost use Rattle.vt_journal.specs.Log.{charge_of_all};
+ghost use Rattle.vt_journal.specs.Room.{HasRoom, stop_at};
 
-use crate::Limits;
+use crate::{Full, Limits};
 use std::alloc::Global;
 use std::marker::Model;
 use vt_base::NoMemory;
@@ -53,6 +54,20 @@ impl Log {
     {
         self.entries.len() < self.limits.events as usize
             && self.bytes + u64::from(charge) <= self.limits.bytes
+    }
+
+    /// The numbers of a full journal, if one more entry with this charge isn't within the limits.
+    pub fn stop(&self, charge: u32) -> Option<Full>
+        ensures { result ≡ stop_at self.now charge }
+    {
+        if self.room(charge) {
+            return None;
+        }
+        Some(Full {
+            events: self.entries.len() as u32,
+            bytes: self.bytes,
+            charge,
+        })
     }
 
     /// Adds an entry. There must be room for it.

@@ -116,46 +116,42 @@ const CASES: &[Case] = &[
     ),
 ];
 
-// Adds the entry, the first by `push` and the others with their charge, and returns 0; if there is no room, returns the
-// entry's charge.
-fn add(log: &mut Log, entry: Entry) -> u32 {
+// Adds the entry, the first by `push` and the others with their charge, and returns None; if there is no room, returns
+// the numbers of the full log.
+fn add(log: &mut Log, entry: Entry) -> Option<Full> {
     let charge = charge(&entry.event);
-    if !log.room(charge) {
-        return charge;
-    }
-    if log.entries().is_empty() {
-        log.push(entry);
-    } else {
-        log.push_counted(entry, charge);
-    }
-    0
-}
-
-// The first rows, as many as the log's limits allow; and the charge of the next one, or 0.
-fn fill(alloc: Global, log: &mut Log, rows: &[Row]) -> Result<u32, NoMemory> {
-    for row in rows {
-        let left = match entry(alloc, row)? {
-            Some(entry) => add(log, entry),
-            None => 1,
-        };
-        if left != 0 {
-            return Ok(left);
+    let full = log.stop(charge);
+    if log.room(charge) {
+        if log.entries().is_empty() {
+            log.push(entry);
+        } else {
+            log.push_counted(entry, charge);
         }
     }
-    Ok(0)
+    full
 }
 
-fn tail(log: &Log, charge: u32) -> Tail {
-    let events = log.entries().len() as u32;
-    let bytes = log.bytes();
-    if charge == 0 {
-        return Tail::End { events, bytes };
+// The first rows, as many as the log's limits allow; and the numbers of the full log, if the next one finds no room.
+fn fill(alloc: Global, log: &mut Log, rows: &[Row]) -> Result<Option<Full>, NoMemory> {
+    for row in rows {
+        let Some(entry) = entry(alloc, row)? else {
+            return Ok(None);
+        };
+        if let Some(full) = add(log, entry) {
+            return Ok(Some(full));
+        }
     }
-    Tail::Full(Full {
-        events,
-        bytes,
-        charge,
-    })
+    Ok(None)
+}
+
+fn tail(log: &Log, full: Option<Full>) -> Tail {
+    match full {
+        Some(full) => Tail::Full(full),
+        None => Tail::End {
+            events: log.entries().len() as u32,
+            bytes: log.bytes(),
+        },
+    }
 }
 
 fn is_old(alloc: Global, entries: &[Entry], tail: &Tail, wanted: &[u8]) -> Result<bool, NoMemory> {
@@ -173,16 +169,16 @@ fn is_new(alloc: Global, entries: &[Entry], tail: &Tail, wanted: &[u8]) -> Resul
     Ok(text.as_slice() == wanted)
 }
 
-fn is_told(alloc: Global, log: &Log, charge: u32, case: &Case) -> Result<bool, NoMemory> {
+fn is_told(alloc: Global, log: &Log, full: Option<Full>, case: &Case) -> Result<bool, NoMemory> {
     let (_, _, _, old, new) = *case;
-    let tail = tail(log, charge);
+    let tail = tail(log, full);
     Ok(is_old(alloc, log.entries(), &tail, old)? && is_new(alloc, log.entries(), &tail, new)?)
 }
 
 fn fills(alloc: Global, log: &mut Log, case: &Case) -> Result<bool, NoMemory> {
     let (rows, ..) = *case;
-    let charge = fill(alloc, log, rows)?;
-    is_told(alloc, log, charge, case)
+    let full = fill(alloc, log, rows)?;
+    is_told(alloc, log, full, case)
 }
 
 fn is_printed(alloc: Global, case: &Case) -> Result<bool, NoMemory> {

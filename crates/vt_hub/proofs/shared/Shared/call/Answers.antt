@@ -1,8 +1,8 @@
-use Rattle.std.proofs.Common.{rules, ◌≡◌, Some, false, length, sym, ap, subst, ◌∙◌}
+use Rattle.std.proofs.Common.{rules, ◌≡◌, Some, false, arith, sym, ap, subst, ◌∙◌}
 use Rattle.turn_lock.specs.declared.seal.Seal.{Seal}
 use Rattle.vt_hub.specs.Shared.{IsSound, SharedView, shared_view}
 use Rattle.vt_hub.specs.declared.state.State.{State}
-use Rattle.vt_journal.specs.Room.{full_at, has_room}
+use Rattle.vt_journal.specs.Room.{full_at, has_room, stop_at}
 use Rattle.vt_journal.specs.declared.full.Full.{Full}
 use Rattle.vt_world.specs.State.{is_waiting}
 use Rattle.vt_hub.proofs.Found.{met_before}
@@ -20,10 +20,14 @@ invariant_of-self g c =
     let now : State = c.self.inside.state.value in
     let given : c.deref_mut.result.now ≡ now = c.deref_mut.ensures.value in
     let lent : c.deref-state.result.now ≡ now = c.deref-state.ensures in
-    let full : Full = record { events = length c.entries.result.now; bytes = c.bytes.result; charge = c.charge-charge.result } in
+    let full : Full = c.in-Some-stop.full in
     let z : Seal Full = record { by = c.from.result; what = full } in
-    let numbers : full ≡ full_at now.log.entries full.charge = search rules in
-    let no_room : has_room g.J.Opening.limits now.log.entries full.charge ≡ false = search rules in
+    let stops : c.stop.result ≡ stop_at now.log c.charge-charge.result =
+    c.stop.ensures ∙ ap (λ (s : State). stop_at s.log c.charge-charge.result) lent in
+    let numbers : full ≡ full_at now.log.entries full.charge = grind (arith, stops, c.in-Some-stop.is) in
+    let none : has_room now.log.limits now.log.entries full.charge ≡ false = grind (arith, stops, c.in-Some-stop.is) in
+    let no_room : has_room g.J.Opening.limits now.log.entries full.charge ≡ false =
+    ap (λ limits. has_room limits now.log.entries full.charge) (sym c.self.invariant.limits) ∙ none in
     let goes : is_waiting now.world z.by ≡ false = search rules in
     subst (λ (s : State). IsSound g.J.Opening.start g.J.Opening.limits (record (shared_view s) { stop = Some z })) (sym given)
     (sound_stopped g.J.Opening.start g.J.Opening.limits (shared_view now) z c.self.invariant
