@@ -45,9 +45,10 @@ BEHIND = [
     ("check_install", ["dev/checks/check_install.py"]),
     ("check_expect", ["dev/checks/check_expect.py"]),
     ("check_python", ["dev/checks/check_python.py"]),
+    ("check_tools", ["dev/checks/check_tools.py"]),
 ]
 LIBRARY = TOP / "out/c/lib/libvt.so.1"
-OVER_LIBRARY = ("check_vtrun", "check_expect", "check_python")
+OVER_LIBRARY = ("check_vtrun", "check_expect", "check_python", "check_tools")
 CHECKS = [
     ("check_hostile", ["dev/checks/check_hostile.py"]),
     ("make_conformance --check", ["dev/gen/make_conformance.py", "--check"]),
@@ -55,7 +56,6 @@ CHECKS = [
     ("check_explore", ["dev/checks/check_explore.py"]),
     ("check_timeline", ["dev/checks/check_timeline.py"]),
     ("check_keymaps", ["dev/checks/check_keymaps.py"]),
-    ("check_tools", ["dev/checks/check_tools.py"]),
     ("check_models", ["dev/checks/check_models.py"]),
     ("engines vt", ["tools/engines.py", "vt", "--cut", "--first"]),
     ("check_build", ["dev/checks/check_build.py", "--build"]),
