@@ -88,9 +88,11 @@ def fault_of(words, folder, environment, status, said):
 
 def interrupt_fault(words, folder, environment, status):
     """The same for a tool that reads standard input when it is interrupted."""
+    # (a check in the background of a shell begins with interrupts ignored, and so would the tool)
     with subprocess.Popen(
         ["sh", "-c", f"exec {command(words)}"], cwd=folder, env=environment, stdin=subprocess.PIPE,
         stdout=subprocess.DEVNULL, stderr=subprocess.PIPE,
+        preexec_fn=lambda: signal.signal(signal.SIGINT, signal.SIG_DFL),
     ) as ran:  # fmt: skip
         end = time.monotonic() + MOST_START
         # (it reads when it sleeps in a read of its standard input)
