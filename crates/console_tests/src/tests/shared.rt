@@ -30,7 +30,7 @@ pub(crate) fn started(alloc: Global, text: &str) -> Result<World, Fail>
     Ok(world)
 }
 
-/// Makes a call: WaitEnd if the pass waits. It stands alone, since each body that holds it is dear to prove.
+/// Makes a call: WaitEnd if the pass waits.
 pub(crate) fn ask<J: Opening, R: Wait>(
     seat: &Seat<J, R>,
     pass: &mut Pass<J>,
