@@ -63,7 +63,7 @@ WANTED = {
     "attached": True,
     "attached switch": ["ok", ""],
 }
-STATUSES = [0, 1, 0, 1, 1, 0, 0, 1, 1, 0, 0, 3, 0, 1, 2, 2, 3, 3, 2, 0] + 22 * [2]
+STATUSES = [0, 1, 0, 1, 1, 0, 0, 1, 1, 0, 0, 3, 0, 1, 2, 2, 3, 3, 2, 0] + 3 * [0] + 22 * [2]
 # What is said of an answer to /dev/full, then the statuses of this and of a closed standard output.
 FULL = "vtrun: standard output can't be written: No space left on device"
 UNWRITTEN = 2 * [FULL, "3", "3"] + [FULL, "125", "125"]

@@ -69,42 +69,31 @@ size_t screen_text(unsigned n, char *to, size_t room)
     return length;
 }
 
-/* The text that draws a console's screen, or NULL. */
-char *screen_redraw(unsigned n, size_t *length)
+typedef uint8_t screen_call(const struct vt_machine *, uint32_t, uint8_t *, size_t, size_t *);
+
+/* What a call of the library writes of a console's screen, or NULL. */
+static char *written_by(screen_call *call, unsigned n, size_t *length)
 {
     *length = 0;
-    if (vt_machine_redraw(&machine, n, NULL, 0, length) != VT_NO_ROOM)
+    if (call(&machine, n, NULL, 0, length) != VT_NO_ROOM)
         return NULL;
     char *text = malloc(*length);
-    if (text && vt_machine_redraw(&machine, n, (uint8_t *)text, *length, length) == VT_OK)
+    if (text && call(&machine, n, (uint8_t *)text, *length, length) == VT_OK)
         return text;
     free(text);
     return NULL;
 }
 
+/* The text that draws a console's screen, or the nearest one that a text can draw; or NULL. */
+char *screen_redraw(unsigned n, size_t *length)
+{
+    return written_by(vt_machine_redraw_near, n, length);
+}
+
 /* The screen as a picture in SVG, or NULL. */
 char *screen_picture(unsigned n, size_t *length)
 {
-    struct vt_console seen;
-    struct vt_screen screen = { NULL };
-    size_t drawn;
-    char *text = screen_redraw(n, &drawn), *picture = NULL;
-    *length = 0;
-    if (!text || vt_machine_console(&machine, n, &seen) != VT_OK ||
-        vt_screen_new(&screen, seen.rows, seen.cols) != VT_OK) {
-        free(text);
-        return NULL;
-    }
-    vt_screen_write(&screen, (const uint8_t *)text, drawn);
-    free(text);
-    if (vt_screen_picture(&screen, NULL, 0, length) == VT_NO_ROOM)
-        picture = malloc(*length);
-    if (picture && vt_screen_picture(&screen, (uint8_t *)picture, *length, length) != VT_OK) {
-        free(picture);
-        picture = NULL;
-    }
-    vt_screen_free(&screen);
-    return picture;
+    return written_by(vt_machine_picture, n, length);
 }
 
 static size_t put_colours(char *to, unsigned attr)

@@ -23,6 +23,11 @@ status env VTRUN_SOCKET=/nowhere vtrun front
 status env -u VTRUN_SOCKET vtrun front
 status vtrun attach
 status vtrun row 1 0
+# A screen that no text draws: a byte from 80 to 9F that was drawn in byte mode.
+printf '\033%%@\205abc' > /dev/tty3
+status vtrun wait text 3 abc 10
+status vtrun snap 3 --svg
+status vtrun snap 3 --redraw
 # Words that aren't of the form, which do nothing: those of the last lines would end vtrun.
 line_end='1
 end'
